@@ -1,0 +1,5 @@
+-- What the proofs of more than one module cite. Each Rust module has its own lemmas beside its functions' proofs.
+mod Naturals
+pub mod Nans
+mod Examples
+mod RoundToOdd

@@ -1,0 +1,3 @@
+-- What the two conversions' proofs cite.
+mod Counting
+mod Narrowing

@@ -1,0 +1,73 @@
+-- `floats::convert::narrow_pattern` meets its contract. Assumes nothing.
+use mathlib.Core.Path.{_≡_, sym, ap, _∙_, subst}
+use Prim.Native.Nat.{ℕ, _+_, _*_, _%_, _^_}
+use native.Mathlib.Omega.{arith}
+use borrow.Author.Needs.{needs}
+use Rattle.floats.specs.Packed.{packed}
+use Rattle.floats.specs.Fields.{exponentFieldOf, significandOf, exponentOf}
+use Rattle.floats.proofs.decode.Reading.{exponent-lt}
+use Rattle.floats.proofs.rounding.Normalising.{IsLeadingZeros}
+use Rattle.floats.proofs.convert.Narrowing.{narrow-infinite, narrow-zero, narrow-encodes}
+use Rattle.floats.proofs.convert.narrow_pattern.Statement.{statement}
+use Rattle.floats.proofs.convert.narrow_pattern.Tie as tie
+
+finite : (c : tie.Else1) → exponentFieldOf (c .before .before .args .n) ≡ 2047 → ⊥
+finite c e = c .if1 .left (c .before .exponent-field-of .ensures ∙ e)
+
+exponent-field-of-requires : tie.Need-exponent-field-of-requires
+exponent-field-of-requires c κs = search needs
+
+returns : tie.Need-returns
+returns c =
+    let s = c .before .before in
+    narrow-infinite (s .args .n) (s .fits .n .fits) (sym (c .before .exponent-field-of .ensures) ∙ c .if1 .taken) (s .pre)
+
+significand-of-requires : tie.Need-significand-of-requires
+significand-of-requires c κs = search needs
+
+returns-2 : tie.Need-returns-2
+returns-2 c =
+    let s = c .before .before .before .before in
+    narrow-zero (s .args .n) (s .fits .n .fits) (finite (c .before .before)) (sym (c .before .significand-of .ensures) ∙ c .if2 .taken)
+
+leading-zeros-requires : tie.Need-leading-zeros-requires
+leading-zeros-requires c κs = search needs
+
+shl-pack : tie.Need-shl-pack
+shl-pack c = search needs
+
+exponent-of-requires : tie.Need-exponent-of-requires
+exponent-of-requires c κs = search needs
+
+add-pack : tie.Need-add-pack
+add-pack c = search needs
+
+pack-requires : tie.Need-pack-requires
+pack-requires c κs = omega (arith, exponent-lt (c .before .before .before .before .before .before .args .n))
+
+returns-3 : tie.Need-returns-3
+returns-3 c =
+    let e = c .before in
+    let t = e .before in
+    let g = t .before .before in
+    let s = g .before .before .before in
+    let m : g .significand-of .result ≡ significandOf (s .args .n) = g .significand-of .ensures in
+    let u = t .leading-zeros .result in
+    narrow-encodes (s .args .n) (s .fits .n .fits) (finite (g .before)) u (c .pack .result)
+    (subst (λ (x : ℕ). IsLeadingZeros x u) m (t .leading-zeros .ensures))
+    (c .pack .ensures ∙ ap (λ (x : ℕ). packed 24 255 (g .significand-of .result * 2 ^ u % 2 ^ 64) x (u + 925)) (e .exponent-of .ensures) ∙ ap (λ (x : ℕ). packed 24 255 (x * 2 ^ u % 2 ^ 64) (exponentOf (s .args .n)) (u + 925)) m)
+
+pub narrow-pattern-spec : {M : Type 1} → statement M
+narrow-pattern-spec =
+    tie.close
+    (tie.spec
+    exponent-field-of-requires
+    returns
+    significand-of-requires
+    returns-2
+    leading-zeros-requires
+    shl-pack
+    exponent-of-requires
+    add-pack
+    pack-requires
+    returns-3)

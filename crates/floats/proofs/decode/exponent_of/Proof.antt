@@ -1,0 +1,27 @@
+-- `floats::decode::exponent_of` meets its contract. Assumes nothing.
+use mathlib.Core.Path.{sym, ap, _∙_}
+use Prim.Native.Nat.{ℕ, _-_}
+use borrow.Author.Needs.{needs}
+use Rattle.floats.specs.Fields.{exponentOf}
+use Rattle.floats.proofs.decode.exponent_of.Statement.{statement}
+use Rattle.floats.proofs.decode.exponent_of.Tie as tie
+
+exponent-field-of-requires : tie.Need-exponent-field-of-requires
+exponent-field-of-requires c κs = search needs
+
+sub-result : tie.Need-sub-result
+sub-result c = search needs
+
+returns : tie.Need-returns
+unfolding exponentOf
+returns c =
+    let z = c .before .exponent-field-of .ensures in
+    sym (ap (λ (x : ℕ). x - 1) (sym z ∙ c .if1 .taken))
+
+returns-2 : tie.Need-returns-2
+unfolding exponentOf
+returns-2 c =
+    ap (λ (x : ℕ). x - 1) (c .before .exponent-field-of .ensures)
+
+pub exponent-of-spec : {M : Type 1} → statement M
+exponent-of-spec = tie.close (tie.spec exponent-field-of-requires sub-result returns returns-2)

@@ -1,0 +1,20 @@
+-- `floats::decode::significand_of` meets its contract. Assumes nothing.
+use mathlib.Core.Path.{sym, _∙_}
+use borrow.Author.Needs.{needs}
+use Rattle.floats.proofs.decode.Reading.{significand-zero, significand-more}
+use Rattle.floats.proofs.decode.significand_of.Statement.{statement}
+use Rattle.floats.proofs.decode.significand_of.Tie as tie
+
+exponent-field-of-requires : tie.Need-exponent-field-of-requires
+exponent-field-of-requires c κs = search needs
+
+returns : tie.Need-returns
+returns c =
+    significand-zero (c .before .before .args .n) (sym (c .before .exponent-field-of .ensures) ∙ c .if1 .taken)
+
+returns-2 : tie.Need-returns-2
+returns-2 c =
+    significand-more (c .before .before .args .n) (λ e. c .if1 .left (c .before .exponent-field-of .ensures ∙ e))
+
+pub significand-of-spec : {M : Type 1} → statement M
+significand-of-spec = tie.close (tie.spec exponent-field-of-requires returns returns-2)

@@ -1,0 +1,46 @@
+-- `floats::fused::round_wide` meets its contract. Assumes nothing.
+use borrow.Author.Needs.{needs}
+use Rattle.floats.specs.TwoWords.{words}
+use Rattle.floats.proofs.fused.Rounding.{round-wide-zero, round-wide-some}
+use Rattle.floats.proofs.wide.Shifts.{words-some}
+use Rattle.floats.proofs.fused.round_wide.Statement.{statement}
+use Rattle.floats.proofs.fused.round_wide.Tie as tie
+
+sign-bit-requires : tie.Need-sign-bit-requires
+sign-bit-requires c κs = search needs
+
+returns : tie.Need-returns
+returns c =
+    let s = c .before .before in
+    λ n h. round-wide-zero (s .args .s) (s .args .hi) (s .args .lo) (s .args .e) (c .before .sign-bit .result) n (c .before .sign-bit .ensures) (c .if1 .taken) h
+
+leading-word-requires : tie.Need-leading-word-requires
+leading-word-requires c κs = words-some (c .before .before .args .hi) (c .before .before .args .lo) (c .if1 .left)
+
+add-pack : tie.Need-add-pack
+add-pack c = search needs
+
+add-pack-2 : tie.Need-add-pack-2
+add-pack-2 c = search needs
+
+pack-requires : tie.Need-pack-requires
+pack-requires c κs = search needs
+
+returns-2 : tie.Need-returns-2
+returns-2 c =
+    let u = c .before in
+    let g = u .before .before in
+    let s = g .before in
+    λ n h. round-wide-some (s .args .s) (words (s .args .hi) (s .args .lo)) (s .args .e) (c .pack .result) n (u .leading-word .result .word) (u .leading-word .result .shift) (g .sign-bit .result) (g .sign-bit .ensures) (u .leading-word .ensures) (c .pack .ensures) h
+
+pub round-wide-spec : {M : Type 1} → statement M
+round-wide-spec =
+    tie.close
+    (tie.spec
+    sign-bit-requires
+    returns
+    leading-word-requires
+    add-pack
+    add-pack-2
+    pack-requires
+    returns-2)

@@ -1,0 +1,25 @@
+-- `floats::pattern::f64_to_bits` meets its contract. Assumes nothing.
+use mathlib.Core.Path.{_≡_, refl, sym, ap, _∙_, subst}
+use lib.Dec.{T}
+use lib.Ieee.{nan, binary64, toBits}
+use lib.Ieee.Compare.{differs-from-itself}
+use borrow.Author.Needs.{needs}
+use Rattle.floats.proofs.Nans.{number-of-equal}
+use Rattle.floats.proofs.pattern.f64_to_bits.Statement.{statement}
+use Rattle.floats.proofs.pattern.f64_to_bits.Tie as tie
+
+nan-pattern : 0x7ff8_0000_0000_0000 ≡ toBits binary64 nan
+unfolding toBits
+nan-pattern = refl
+
+float-to-bits-result : tie.Need-float-to-bits-result
+float-to-bits-result c = number-of-equal (c .before .args .x) (c .if1 .left)
+
+returns : tie.Need-returns
+returns c = nan-pattern ∙ sym (ap (toBits binary64) (differs-from-itself (c .before .args .x) (subst T (sym (c .if1 .taken)) tt)))
+
+returns-2 : tie.Need-returns-2
+returns-2 c = search needs
+
+pub f64-to-bits-spec : {M : Type 1} → statement M
+f64-to-bits-spec = tie.close (tie.spec float-to-bits-result returns returns-2)

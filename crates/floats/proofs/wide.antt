@@ -1,0 +1,5 @@
+-- Lemmas on numbers of two words.
+mod Order
+mod Columns
+pub mod Shifts
+mod LeadingBits

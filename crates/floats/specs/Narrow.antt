@@ -1,0 +1,11 @@
+-- An f64 as an f32, Rust's `as f32`. Document 01: "Float narrowing and count-to-float round to nearest, ties to even." The count is `lib.Ieee`'s `ofInt`.
+-- Assumes nothing.
+use Prim.Native.Nat.{_*_}
+use lib.Ieee.{Float, nan, inf, fin, binary32, up, down, round}
+
+-- the f32 nearest to an f64
+unfoldable pub narrow : Float → Float
+unfolding round
+narrow nan = nan
+narrow (inf s) = inf s
+narrow (fin s m e) = round binary32 s (m * up e) (down e)

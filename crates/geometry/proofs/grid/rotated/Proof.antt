@@ -1,0 +1,13 @@
+-- `geometry::grid::rotated` meets its contract. Assumes nothing.
+use Rattle.geometry.specs.Placement.{vec}
+use Rattle.geometry.specs.Grid.{rotated}
+use borrow.Author.Needs.{needs}
+use Rattle.geometry.proofs.grid.rotated.Statement.{statement}
+use Rattle.geometry.proofs.grid.rotated.Tie as tie
+
+returns : tie.Need-returns
+unfolding rotated
+returns c = λ i. vec ((c .before .before .mul-add .ensures) i) ((c .mul-add2 .ensures) i)
+
+pub rotated-spec : {M : Type 1} → statement M
+rotated-spec = tie.close (tie.spec (λ c κs. search needs) (λ c κs. search needs) returns)
