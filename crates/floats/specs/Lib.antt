@@ -5,7 +5,6 @@
 pub mod Fma
 pub mod Narrow
 pub mod Order
-
 -- the steps inside
 pub mod Units
 pub mod Fields

@@ -52,6 +52,10 @@ pub(crate) fn pack(m: u64, up: u64, down: u64, precision: u64, ones: u64) -> u64
             return infinity;
         }
         let magnitude = (field << (precision - 1)) + shift_to_nearest(m, 64 - precision);
-        if magnitude < infinity { magnitude } else { infinity }
+        if magnitude < infinity {
+            magnitude
+        } else {
+            infinity
+        }
     }
 }

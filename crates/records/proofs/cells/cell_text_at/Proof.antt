@@ -1,0 +1,27 @@
+-- `records::cells::cell_text_at` meets its contract. Assumes nothing.
+use Prim.Native.Nat.{ℕ, _+_}
+use mathlib.Core.Path.{ap, _∙_}
+use denote.Ref.{now}
+use Rattle.records.specs.Records.{cellNumberAt, cellTextAt}
+use borrow.Author.Needs.{needs}
+use Rattle.records.proofs.cells.cell_text_at.Statement.{statement}
+use Rattle.records.proofs.cells.cell_text_at.Tie as tie
+
+texts-from-requires : tie.Need-texts-from-requires
+texts-from-requires c κs = search needs
+
+add-cell-number-at : tie.Need-add-cell-number-at
+add-cell-number-at c = search needs
+
+cell-number-at-requires : tie.Need-cell-number-at-requires
+cell-number-at-requires c κs = search needs
+
+returns : tie.Need-returns
+unfolding cellTextAt
+returns c =
+    let a = c .before .before .before .args in
+    c .cell-number-at .ensures ∙ ap (λ (m : ℕ). cellNumberAt (now (a .s)) (a .at) (m + a .i)) (c .before .texts-from .ensures .0)
+
+pub cell-text-at-spec : {M : Type 1} → statement M
+cell-text-at-spec =
+    tie.close (tie.spec texts-from-requires add-cell-number-at cell-number-at-requires returns)

@@ -1,0 +1,37 @@
+-- `records::cells::nodes_from` meets its contract. Assumes nothing.
+use Prim.Native.Nat.{ℕ, _+_}
+use mathlib.Core.Path.{ap₂, _∙_}
+use native.Mathlib.Omega.{arith}
+use denote.Ref.{now}
+use Rattle.records.specs.Records.{nodesFrom}
+use Rattle.records.proofs.Body.{uint-in}
+use borrow.Author.Needs.{needs}
+use Rattle.records.proofs.cells.nodes_from.Statement.{statement}
+use Rattle.records.proofs.cells.nodes_from.Tie as tie
+
+texts-from-requires : tie.Need-texts-from-requires
+texts-from-requires c κs = search needs
+
+from-requires : tie.Need-from-requires
+from-requires c κs = search needs
+
+u16-at-requires : tie.Need-u16-at-requires
+u16-at-requires c κs = search needs
+
+cast-result : tie.Need-cast-result
+cast-result c = search needs
+
+add-result : tie.Need-add-result
+add-result c = search needs
+
+returns : tie.Need-returns
+unfolding nodesFrom
+returns c =
+    let a = c .before .before .before .before .args in
+    let uint = uint-in _ (now (a .s)) (a .at) (c .before .from .ensures) in
+    (ap₂ (λ (m n : ℕ). m + n) (c .before .before .texts-from .ensures .0) (c .u16-at .ensures ∙ uint 50 2), omega (arith, c .before .before .texts-from .ensures .1))
+
+pub nodes-from-spec : {M : Type 1} → statement M
+nodes-from-spec =
+    tie.close
+    (tie.spec texts-from-requires from-requires u16-at-requires cast-result add-result returns)

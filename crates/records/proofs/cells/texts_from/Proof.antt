@@ -1,0 +1,28 @@
+-- `records::cells::texts_from` meets its contract. Assumes nothing.
+use mathlib.Core.Path.{_∙_}
+use native.Mathlib.Omega.{arith}
+use denote.Ref.{now}
+use Rattle.records.specs.Records.{textsFrom}
+use Rattle.records.proofs.Body.{uint-in}
+use borrow.Author.Needs.{needs}
+use Rattle.records.proofs.cells.texts_from.Statement.{statement}
+use Rattle.records.proofs.cells.texts_from.Tie as tie
+
+from-requires : tie.Need-from-requires
+from-requires c κs = search needs
+
+u16-at-requires : tie.Need-u16-at-requires
+u16-at-requires c κs = search needs
+
+cast-result : tie.Need-cast-result
+cast-result c = search needs
+
+returns : tie.Need-returns
+unfolding textsFrom
+returns c =
+    let a = c .before .before .before .args in
+    let uint = uint-in _ (now (a .s)) (a .at) (c .before .from .ensures) in
+    (c .u16-at .ensures ∙ uint 48 2, omega arith)
+
+pub texts-from-spec : {M : Type 1} → statement M
+texts-from-spec = tie.close (tie.spec from-requires u16-at-requires cast-result returns)

@@ -1,0 +1,55 @@
+-- `records::items::geometry_at` meets its contract. Assumes nothing.
+use mathlib.Core.Path.{_∙_}
+use denote.Ref.{now}
+use Rattle.records.specs.Records.{geometryAt}
+use Rattle.records.proofs.Body.{uint-in, bbox-in}
+use borrow.Author.Needs.{needs}
+use Rattle.records.proofs.items.geometry_at.Statement.{statement}
+use Rattle.records.proofs.items.geometry_at.Tie as tie
+
+from-requires : tie.Need-from-requires
+from-requires c κs = search needs
+
+u16-at-requires : tie.Need-u16-at-requires
+u16-at-requires c κs = search needs
+
+cast-t5 : tie.Need-cast-t5
+cast-t5 c = search needs
+
+u16-at-requires-2 : tie.Need-u16-at-requires-2
+u16-at-requires-2 c κs = search needs
+
+cast-t7 : tie.Need-cast-t7
+cast-t7 c = search needs
+
+u32-at-requires : tie.Need-u32-at-requires
+u32-at-requires c κs = search needs
+
+world-bbox-at-requires : tie.Need-world-bbox-at-requires
+world-bbox-at-requires c κs = search needs
+
+returns : tie.Need-returns
+unfolding geometryAt
+returns c =
+    let a = c .before .before .before .before .before .before .args in
+    let uint = uint-in _ (now (a .s)) (a .at) (c .before .before .before .before .from .ensures) in
+    let box = bbox-in _ (now (a .s)) (a .at) (c .before .before .before .before .from .ensures) in
+    λ i. record {
+      layer = (c .before .before .before .u16-at .ensures ∙ uint 6 2) i;
+      «data_type» = (c .before .before .u16-at2 .ensures ∙ uint 8 2) i;
+      «element_count» = (c .before .u32-at .ensures ∙ uint 10 4) i;
+      bbox = (c .world-bbox-at .ensures ∙ box 14) i;
+    }
+
+pub geometry-at-spec : {M : Type 1} → statement M
+geometry-at-spec =
+    tie.close
+    (tie.spec
+    from-requires
+    u16-at-requires
+    cast-t5
+    u16-at-requires-2
+    cast-t7
+    u32-at-requires
+    world-bbox-at-requires
+    returns)

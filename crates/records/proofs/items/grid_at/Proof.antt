@@ -1,0 +1,86 @@
+-- `records::items::grid_at` meets its contract. Assumes nothing.
+use Prim.Native.Nat.{ℕ}
+use mathlib.Core.Path.{ap, _∙_}
+use denote.Ref.{now}
+use Rattle.records.specs.Records.{bit, gridAt}
+use Rattle.records.proofs.Body.{uint-in, f64-in, dvec2-in}
+use borrow.Author.Needs.{needs}
+use Rattle.records.proofs.items.grid_at.Statement.{statement}
+use Rattle.records.proofs.items.grid_at.Tie as tie
+
+from-requires : tie.Need-from-requires
+from-requires c κs = search needs
+
+u16-at-requires : tie.Need-u16-at-requires
+u16-at-requires c κs = search needs
+
+cast-t5 : tie.Need-cast-t5
+cast-t5 c = search needs
+
+u16-at-requires-2 : tie.Need-u16-at-requires-2
+u16-at-requires-2 c κs = search needs
+
+cast-t7 : tie.Need-cast-t7
+cast-t7 c = search needs
+
+u16-at-requires-3 : tie.Need-u16-at-requires-3
+u16-at-requires-3 c κs = search needs
+
+bit-requires : tie.Need-bit-requires
+bit-requires c κs = search needs
+
+dvec2-at-requires : tie.Need-dvec2-at-requires
+dvec2-at-requires c κs = search needs
+
+dvec2-at-requires-2 : tie.Need-dvec2-at-requires-2
+dvec2-at-requires-2 c κs = search needs
+
+dvec2-at-requires-3 : tie.Need-dvec2-at-requires-3
+dvec2-at-requires-3 c κs = search needs
+
+f64-at-requires : tie.Need-f64-at-requires
+f64-at-requires c κs = search needs
+
+f64-at-requires-2 : tie.Need-f64-at-requires-2
+f64-at-requires-2 c κs = search needs
+
+f64-at-requires-3 : tie.Need-f64-at-requires-3
+f64-at-requires-3 c κs = search needs
+
+returns : tie.Need-returns
+unfolding gridAt
+returns c =
+    let a = c .before .before .before .before .before .before .before .before .before .before .before .before .args in
+    let uint = uint-in _ (now (a .s)) (a .at) (c .before .before .before .before .before .before .before .before .before .before .from .ensures) in
+    let float = f64-in _ (now (a .s)) (a .at) (c .before .before .before .before .before .before .before .before .before .before .from .ensures) in
+    let point = dvec2-in _ (now (a .s)) (a .at) (c .before .before .before .before .before .before .before .before .before .before .from .ensures) in
+    λ i. record {
+      columns = (c .before .before .before .before .before .before .before .before .before .u16-at .ensures ∙ uint 6 2) i;
+      rows = (c .before .before .before .before .before .before .before .before .u16-at2 .ensures ∙ uint 8 2) i;
+      «x_reflection» = (c .before .before .before .before .before .before .bit .ensures ∙ ap (λ (n : ℕ). bit n 0) (c .before .before .before .before .before .before .before .u16-at3 .ensures ∙ uint 10 2)) i;
+      origin = (c .before .before .before .before .before .dvec2-at .ensures ∙ point 18) i;
+      «spacing_x» = (c .before .before .before .before .dvec2-at2 .ensures ∙ point 34) i;
+      «spacing_y» = (c .before .before .before .dvec2-at3 .ensures ∙ point 50) i;
+      magnification = (c .before .before .f64-at .ensures ∙ float 66) i;
+      cos = (c .before .f64-at2 .ensures ∙ float 74) i;
+      sin = (c .f64-at3 .ensures ∙ float 82) i;
+    }
+
+pub grid-at-spec : {M : Type 1} → statement M
+grid-at-spec =
+    tie.close
+    (tie.spec
+    from-requires
+    u16-at-requires
+    cast-t5
+    u16-at-requires-2
+    cast-t7
+    u16-at-requires-3
+    bit-requires
+    dvec2-at-requires
+    dvec2-at-requires-2
+    dvec2-at-requires-3
+    f64-at-requires
+    f64-at-requires-2
+    f64-at-requires-3
+    returns)

@@ -1,0 +1,54 @@
+-- `records::items::node_at` meets its contract. Assumes nothing.
+use Prim.Native.Nat.{ℕ, _-_, _/_}
+use mathlib.Core.Path.{ap, _∙_}
+use denote.Ref.{now}
+use Rattle.records.specs.Records.{nodeAt}
+use Rattle.records.proofs.Body.{uint-in}
+use borrow.Author.Needs.{needs}
+use Rattle.records.proofs.items.node_at.Statement.{statement}
+use Rattle.records.proofs.items.node_at.Tie as tie
+
+from-requires : tie.Need-from-requires
+from-requires c κs = search needs
+
+u16-at-requires : tie.Need-u16-at-requires
+u16-at-requires c κs = search needs
+
+cast-t5 : tie.Need-cast-t5
+cast-t5 c = search needs
+
+u16-at-requires-2 : tie.Need-u16-at-requires-2
+u16-at-requires-2 c κs = search needs
+
+cast-t7 : tie.Need-cast-t7
+cast-t7 c = search needs
+
+u32-at-requires : tie.Need-u32-at-requires
+u32-at-requires c κs = search needs
+
+points-of-requires : tie.Need-points-of-requires
+points-of-requires c κs = search needs
+
+returns : tie.Need-returns
+unfolding nodeAt
+returns c =
+    let a = c .before .before .before .before .before .before .args in
+    let uint = uint-in _ (now (a .s)) (a .at) (c .before .before .before .before .from .ensures) in
+    λ i. record {
+      layer = (c .before .before .before .u16-at .ensures ∙ uint 6 2) i;
+      «node_type» = (c .before .before .u16-at2 .ensures ∙ uint 8 2) i;
+      points = (c .points-of .ensures ∙ ap (λ (n : ℕ). (n - 10) / 16) (c .before .u32-at .ensures)) i;
+    }
+
+pub node-at-spec : {M : Type 1} → statement M
+node-at-spec =
+    tie.close
+    (tie.spec
+    from-requires
+    u16-at-requires
+    cast-t5
+    u16-at-requires-2
+    cast-t7
+    u32-at-requires
+    points-of-requires
+    returns)

@@ -1,0 +1,31 @@
+-- `records::items::node_point_at` meets its contract. Assumes nothing.
+use mathlib.Core.Path.{_∙_}
+use denote.Ref.{now}
+use Rattle.records.specs.Records.{nodePointAt}
+use Rattle.records.proofs.Body.{dvec2-in}
+use borrow.Author.Needs.{needs}
+use Rattle.records.proofs.items.node_point_at.Statement.{statement}
+use Rattle.records.proofs.items.node_point_at.Tie as tie
+
+from-requires : tie.Need-from-requires
+from-requires c κs = search needs
+
+mul-dvec2-at : tie.Need-mul-dvec2-at
+mul-dvec2-at c = search needs
+
+add-dvec2-at : tie.Need-add-dvec2-at
+add-dvec2-at c = search needs
+
+dvec2-at-requires : tie.Need-dvec2-at-requires
+dvec2-at-requires c κs = search needs
+
+returns : tie.Need-returns
+unfolding nodePointAt
+returns c =
+    let a = c .before .before .before .args in
+    let point = dvec2-in _ (now (a .s)) (a .at) (c .before .from .ensures) in
+    c .dvec2-at .ensures ∙ point _
+
+pub node-point-at-spec : {M : Type 1} → statement M
+node-point-at-spec =
+    tie.close (tie.spec from-requires mul-dvec2-at add-dvec2-at dvec2-at-requires returns)

@@ -1,0 +1,75 @@
+// Cells, at a record's offset, and the numbers of their lists, by list place.
+ghost use mathlib.Core.Path.{_≡_};
+ghost use Prim.Native.Nat.{_<_};
+ghost use Rattle.records.specs.Records.{cellAt, textsFrom, nodesFrom, referencesFrom, cellNumberAt, cellGeometryAt, cellTextAt, cellNodeAt, cellReferenceAt};
+use crate::PreparedCell;
+use crate::parts::bit;
+use crate::parts::bounds_at;
+use crate::parts::from;
+
+pub fn cell_at(s: &[u8], at: usize) -> PreparedCell
+    ensures { λ r. ⌜ r ≡ cellAt (now (s .entry)) at ⌝ }
+{
+    let body = from(s, at);
+    PreparedCell {
+        direct_draw_units: fields::u64_at(body, 8),
+        bbox: bounds_at(body, 16, bit(fields::u16_at(body, 6), 0)),
+        geometries: fields::u16_at(body, 48) as u32,
+        texts: fields::u16_at(body, 50) as u32,
+        nodes: fields::u16_at(body, 52) as u32,
+        references: fields::u16_at(body, 54) as u32,
+    }
+}
+
+// ---- The lists of a cell, by list place
+
+// Where the texts, the nodes and the references start among the numbers of a cell.
+fn texts_from(s: &[u8], at: usize) -> usize
+    ensures { λ r. ⌜ (r ≡ textsFrom (now (s .entry)) at) × (r < 65536) ⌝ }
+{
+    fields::u16_at(from(s, at), 48) as usize
+}
+
+fn nodes_from(s: &[u8], at: usize) -> usize
+    ensures { λ r. ⌜ (r ≡ nodesFrom (now (s .entry)) at) × (r < 131072) ⌝ }
+{
+    texts_from(s, at) + fields::u16_at(from(s, at), 50) as usize
+}
+
+fn references_from(s: &[u8], at: usize) -> usize
+    ensures { λ r. ⌜ (r ≡ referencesFrom (now (s .entry)) at) × (r < 196608) ⌝ }
+{
+    nodes_from(s, at) + fields::u16_at(from(s, at), 52) as usize
+}
+
+// The number at a place of a cell's four lists, which stand one after the other.
+fn cell_number_at(s: &[u8], at: usize, place: usize) -> u32
+    requires { ⌜ place < 8589934592 ⌝ }
+    ensures { λ r. ⌜ r ≡ cellNumberAt (now (s .entry)) at place ⌝ }
+{
+    fields::u32_at(from(s, at), 56 + 4 * place)
+}
+
+pub fn cell_geometry_at(s: &[u8], at: usize, i: u32) -> u32
+    ensures { λ r. ⌜ r ≡ cellGeometryAt (now (s .entry)) at i ⌝ }
+{
+    cell_number_at(s, at, i as usize)
+}
+
+pub fn cell_text_at(s: &[u8], at: usize, i: u32) -> u32
+    ensures { λ r. ⌜ r ≡ cellTextAt (now (s .entry)) at i ⌝ }
+{
+    cell_number_at(s, at, texts_from(s, at) + i as usize)
+}
+
+pub fn cell_node_at(s: &[u8], at: usize, i: u32) -> u32
+    ensures { λ r. ⌜ r ≡ cellNodeAt (now (s .entry)) at i ⌝ }
+{
+    cell_number_at(s, at, nodes_from(s, at) + i as usize)
+}
+
+pub fn cell_reference_at(s: &[u8], at: usize, i: u32) -> u32
+    ensures { λ r. ⌜ r ≡ cellReferenceAt (now (s .entry)) at i ⌝ }
+{
+    cell_number_at(s, at, references_from(s, at) + i as usize)
+}

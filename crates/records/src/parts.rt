@@ -1,0 +1,72 @@
+// What the body of a record is made of: points, boxes, flags and sources.
+ghost use mathlib.Core.Path.{_≡_};
+ghost use Prim.Native.Nat.{_<_};
+ghost use lib.ListN.{drop};
+ghost use Rattle.records.specs.Records.{dvec2At, worldBBoxAt, boundsAt, bit, sourceOf};
+use crate::PreparedSource;
+use geometry::bbox::Bounds;
+use geometry::bbox::WorldBBox;
+use geometry::placement::DVec2;
+
+// The bytes from an offset on.
+pub fn from(s: &[u8], at: usize) -> &[u8]
+    ensures { λ r. ⌜ now r ≡ drop at (now (s .entry)) ⌝ }
+{
+    if at < s.len() {
+        return &s[at..];
+    }
+    let end = s.len();
+    &s[end..]
+}
+
+pub fn dvec2_at(s: &[u8], at: usize) -> DVec2
+    ensures { λ r. ⌜ r ≡ dvec2At (now (s .entry)) at ⌝ }
+{
+    DVec2 {
+        x: fields::f64_at(s, at),
+        y: fields::f64_at(from(s, at), 8),
+    }
+}
+
+pub fn world_bbox_at(s: &[u8], at: usize) -> WorldBBox
+    ensures { λ r. ⌜ r ≡ worldBBoxAt (now (s .entry)) at ⌝ }
+{
+    let part = from(s, at);
+    WorldBBox {
+        min_x: fields::f64_at(s, at),
+        min_y: fields::f64_at(part, 8),
+        max_x: fields::f64_at(part, 16),
+        max_y: fields::f64_at(part, 24),
+    }
+}
+
+// The box at an offset, if it is present.
+pub fn bounds_at(s: &[u8], at: usize, present: bool) -> Bounds
+    ensures { λ r. ⌜ r ≡ boundsAt (now (s .entry)) at present ⌝ }
+{
+    if present {
+        let bbox = world_bbox_at(s, at);
+        return Bounds::Box(bbox.min_x, bbox.min_y, bbox.max_x, bbox.max_y);
+    }
+    Bounds::Absent
+}
+
+// A bit of the flags.
+pub fn bit(flags: u16, place: u32) -> bool
+    requires { ⌜ place < 16 ⌝ }
+    ensures { λ r. ⌜ r ≡ bit flags place ⌝ }
+{
+    (flags >> place) % 2 == 1
+}
+
+pub fn source_of(kind: u16, number: u32) -> PreparedSource
+    ensures { λ r. ⌜ r ≡ sourceOf kind number ⌝ }
+{
+    match kind {
+        1 => PreparedSource::Geometry(number),
+        2 => PreparedSource::Text(number),
+        3 => PreparedSource::Node(number),
+        4 => PreparedSource::Reference(number),
+        _ => PreparedSource::Cell(number),
+    }
+}

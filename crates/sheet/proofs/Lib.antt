@@ -1,0 +1,2 @@
+-- Facts that the proofs of the crate's functions share.
+mod Passed

@@ -1,0 +1,26 @@
+-- A valid sheet is well formed: what questions 1 to 7 ask of the bytes gives what the abstract sheet says of its records.
+-- Assumes nothing.
+use Prim.Native.Nat.{ℕ}
+use mathlib.Core.List.{List}
+use Rattle.layout.specs.Sheet.{sheetOf}
+use Rattle.sheet.specs.Valid.{Valid}
+use Rattle.valid_sheet.specs.WellFormed.{WellFormed}
+use Rattle.valid_sheet.specs.Named.{cell-named, source-named}
+use Rattle.valid_sheet.specs.Limits.{few-cells, reference-limits, node-limits}
+use Rattle.valid_sheet.specs.Finite.{geometry-finite, text-finite, node-finite, grid-finite, source-box-finite, cell-box-finite}
+
+pub valid-well-formed : (s : List ℕ) → Valid s → WellFormed (sheetOf s)
+valid-well-formed s valid =
+    record {
+      cell-named = cell-named s valid;
+      source-named = source-named s valid;
+      few-cells = few-cells s valid;
+      reference-limits = reference-limits s valid;
+      node-limits = node-limits s valid;
+      geometry-finite = geometry-finite s valid;
+      text-finite = text-finite s valid;
+      node-finite = node-finite s valid;
+      grid-finite = grid-finite s valid;
+      source-box-finite = source-box-finite s valid;
+      cell-box-finite = cell-box-finite s valid;
+    }

@@ -1,0 +1,40 @@
+-- The columns, rows, points, cells and sources of a valid sheet are within document 01's limits.
+-- Assumes nothing.
+use mathlib.Core.Path.{_≡_}
+use Prim.Native.Nat.{ℕ, _<_}
+use native.Mathlib.Omega.{arith}
+use mathlib.Core.List.{List}
+use mathlib.Core.Option.{some}
+use Rattle.records.specs.declared.PreparedReference.{PreparedReference}
+use Rattle.records.specs.Records.{nodeAt, gridAt, referenceAt}
+use Rattle.layout.specs.Sheet.{NodeRecord, CellRecord, sheetOf, nodeRecordAt, nodes, references, cells}
+use Rattle.layout.specs.Lookup.{item-located, item-below}
+use Rattle.sheet.specs.Valid.{Valid}
+use Rattle.sheet.specs.Laws.Lengths.{node-points}
+use Rattle.sheet.specs.Laws.Values.{columns-most, rows-most}
+use Rattle.valid_sheet.specs.WellFormed.{ReferenceLimits, NodeLimits}
+use Rattle.valid_sheet.specs.Named.{cell-source-below}
+
+module _ (s : List ℕ) (valid : Valid s) (n : ℕ) where
+  -- question 6
+  pub few-cells : (c : CellRecord) → sheetOf s .cell n ≡ some c → n < 4096
+  few-cells c e = omega (arith, item-below cells s n c e, valid .few-cells)
+
+  -- question 4
+  pub reference-limits : (r : PreparedReference) → sheetOf s .reference n ≡ some r → ReferenceLimits r
+  unfolding referenceAt gridAt
+  reference-limits r e =
+      let l = item-located references s n r e in
+      record {
+        columns = rw (l .same) (columns-most s valid n (l .at) (l .found));
+        rows = rw (l .same) (rows-most s valid n (l .at) (l .found));
+        cell-source = cell-source-below s valid n r e;
+      }
+
+  -- question 3
+  pub node-limits : (d : NodeRecord) → sheetOf s .node n ≡ some d → NodeLimits d
+  unfolding nodeRecordAt nodeAt
+  node-limits d e =
+      let l = item-located nodes s n d e in
+      let points = node-points s valid n (l .at) (l .found) in
+      record { least = rw (l .same) (points .least); most = rw (l .same) (points .most) }
