@@ -1,0 +1,3 @@
+-- Facts about integers and vectors of integers.
+pub mod Bounds
+pub mod Products

@@ -1,0 +1,3 @@
+-- Sizes on the screen.
+pub mod Powers
+pub mod Sizes
