@@ -1,13 +1,13 @@
 -- The number of the first no that document 01's questions 2 to 5 give a record, and what a record is that has none.
 -- Assumes nothing.
-use mathlib.Core.Path.{_≡_, refl, sym, _∙_}
+use mathlib.Core.Path.{_≡_, refl}
 use Prim.Native.Nat.{ℕ, suc, _+_, _≤_}
 use native.Mathlib.Omega.{arith}
 use mathlib.Core.List.{List}
 use mathlib.Core.Bool.{Bool, true, false, cond}
 use lib.ListN.{length}
 use borrow.Author.Tests.{leb-true, le-leb}
-use Rattle.walk.specs.Offsets.{lengthAt, Whole}
+use Rattle.walk.specs.Offsets.{Whole}
 use Rattle.questions.specs.Tests.{both-true, both-first, both-second}
 use Rattle.questions.specs.Frame.{frameOk}
 use Rattle.questions.specs.Shape.{shapeOk}

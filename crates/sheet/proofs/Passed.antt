@@ -1,26 +1,30 @@
 -- The counts of the records before an offset, and how a record adds to them.
 -- Assumes nothing.
-use mathlib.Core.Path.{_≡_, refl, sym, ap, _∙_}
+use mathlib.Core.Path.{_≡_, ap, _∙_}
 use Prim.Native.Nat.{ℕ, _+_, _≤_, _<_}
 use native.Mathlib.Omega.{arith}
 use mathlib.Core.List.{List}
 use mathlib.Core.Bool.{Bool, true, false, cond}
 use lib.ListN.{length}
 use lib.Dec.{eqb}
-use Rattle.walk.specs.Offsets.{lengthAt, kindAt, offsetsFrom, offsets, offsets-more, offsets-end}
+use Rattle.walk.specs.Offsets.{lengthAt, kindAt, offsetsFrom, offsets-more, offsets-end}
 use Rattle.walk.specs.Find.{ofKindIn, countOf, countIn, count-step}
 use Rattle.sheet.specs.declared.Counts.{Counts}
 use Rattle.sheet.specs.Count.{countsOf, tallied, counted, AtMost}
 
 -- ---- One kind
 
-pub tallied-at-most : (n kind k : ℕ) → tallied n kind k ≤ n + 1
+tallied-at-most : (n kind k : ℕ) → tallied n kind k ≤ n + 1
 unfolding tallied
 tallied-at-most n kind k = by-test (eqb kind k)
   where
     by-test : (b : Bool) → n + cond b 1 0 ≤ n + 1
     by-test true = omega arith
     by-test false = omega arith
+
+-- a count that is at most an offset stays so with the record there
+pub tallied-next : (n kind k at size : ℕ) → n ≤ at → 6 ≤ size → tallied n kind k ≤ at + size
+tallied-next n kind k at size h w = omega (arith, tallied-at-most n kind k)
 
 -- n records of a kind before an offset, with those from there on, are all
 abbrev Sum : List ℕ → ℕ → ℕ → ℕ → Type 0
@@ -50,14 +54,13 @@ pub record Passed (s : List ℕ) (at : ℕ) (c : Counts) : Type 0 where
 pub passed-step : (s : List ℕ) (at : ℕ) (c : Counts) → at < length s → 6 ≤ lengthAt s at → Passed s at c → Passed s (at + lengthAt s at) (counted (kindAt s at) c)
 unfolding counted
 passed-step s at c h w p =
-    let kind = kindAt s at in
     record {
       at-most = record {
-        geometries = omega (arith, tallied-at-most (c .geometries) kind 1);
-        texts = omega (arith, tallied-at-most (c .texts) kind 2);
-        nodes = omega (arith, tallied-at-most (c .nodes) kind 3);
-        references = omega (arith, tallied-at-most (c .references) kind 4);
-        cells = omega (arith, tallied-at-most (c .cells) kind 5);
+        geometries = tallied-next _ _ _ _ _ (p .at-most .geometries) w;
+        texts = tallied-next _ _ _ _ _ (p .at-most .texts) w;
+        nodes = tallied-next _ _ _ _ _ (p .at-most .nodes) w;
+        references = tallied-next _ _ _ _ _ (p .at-most .references) w;
+        cells = tallied-next _ _ _ _ _ (p .at-most .cells) w;
       };
       geometries = sum-step s at 1 _ h w (p .geometries);
       texts = sum-step s at 2 _ h w (p .texts);

@@ -1,6 +1,6 @@
 -- Each answer of `checkSheet` by what leads to it, for sheets of any size. Numbers 1 and 7 are the two that only a large sheet gets.
 -- Assumes nothing.
-use mathlib.Core.Path.{_≡_, sym, _∙_}
+use mathlib.Core.Path.{_≡_}
 use Prim.Native.Nat.{ℕ, _≤_, _<_}
 use mathlib.Core.List.{List}
 use lib.ListN.{length}

@@ -1,6 +1,6 @@
 -- The answer of a whole sheet: the first no of document 01's questions 1 to 7, or the counts of a sound sheet.
 -- Definitions only. Assumes nothing.
-use Prim.Native.Nat.{ℕ, _+_}
+use Prim.Native.Nat.{ℕ}
 use mathlib.Core.List.{List, [], _∷_}
 use mathlib.Core.Bool.{cond}
 use lib.ListN.{length}

@@ -1,12 +1,13 @@
 -- Small sheets with the number and the offset that document 01 gives them, computed: one list, one theorem.
 -- Numbers 1 and 7 need large sheets: `too-long` and `too-many-cells` of Answers say them of any such sheet.
 -- Assumes nothing.
-use mathlib.Core.Path.{_≡_, refl}
-use Prim.Native.Nat.{ℕ}
+use mathlib.Core.Path.{_≡_, refl, sym, subst}
+use Prim.Native.Nat.{ℕ, _<_}
 use mathlib.Core.List.{List, [], _∷_, _++_}
 use mathlib.Core.Bool.{Bool, true}
 use lib.Dec.{eqb}
-use Rattle.fields.specs.Field.{uintAt, f64At, uintBytes, Field, uint, recordBytes}
+use lib.ListN.{replicate, length-replicate}
+use Rattle.fields.specs.Field.{uintAt, f64At, uintBytes, uint, recordBytes}
 use Rattle.floats.specs.Order.{isFinite}
 use Rattle.walk.specs.Offsets.{offsetsIn, offsetsFrom}
 use Rattle.walk.specs.Find.{ofKindIn}
@@ -17,10 +18,10 @@ use Rattle.questions.specs.Values.{zeroBox, sourceOk, gridOk, referenceOk, cell
 use Rattle.questions.specs.Floats.{finiteAt, floatsFrom, floatsCount, floatsOk}
 use Rattle.questions.specs.Record.{recordNo}
 use lib.Ieee.{ofBits, ofFields, odd}
-use Rattle.sheet.specs.declared.Checked.{Checked}
-use Rattle.sheet.specs.declared.Checked.the-variants.{Sound}
+use Rattle.sheet.specs.declared.Checked.the-variants.{Sound, Refused}
 use Rattle.sheet.specs.Count.{countsOf, tallied}
 use Rattle.sheet.specs.Links.{sourceNamed, belowAt, listsNamed, linkOk}
+use Rattle.sheet.specs.Answers.{too-long}
 use Rattle.sheet.specs.Check.{firstNo, firstUnnamed, checkSheet, numberOf, offsetOf}
 
 -- ---- Records
@@ -125,3 +126,7 @@ cases-as-written = refl
 worked-example : checkSheet (text twenty ++ cell 1 hundred hundred 0) ≡ Sound (record { geometries = 0; texts = 1; nodes = 0; references = 0; cells = 1 })
 unfolding cell text recordBytes uintBytes uintAt f64At isFinite ofBits ofFields odd offsetsIn offsetsFrom ofKindIn both every frameOk listsAt lengthOk shapeOk zeroBox sourceOk gridOk referenceOk cellOk valuesOk finiteAt floatsFrom floatsCount floatsOk recordNo countsOf tallied sourceNamed belowAt listsNamed linkOk firstNo firstUnnamed checkSheet
 worked-example = refl
+
+-- number 1: zeros, more than a sheet may have
+zeros-too-long : (n : ℕ) → 16777216 < n → checkSheet (replicate n 0) ≡ Refused 1 0
+zeros-too-long n h = too-long (replicate n 0) (subst (λ (m : ℕ). 16777216 < m) (sym (length-replicate n 0)) h)

@@ -1,12 +1,11 @@
 -- What a sheet is that passes questions 1 to 7, for those who read it: the answer is sound just where the sheet is valid.
 -- Assumes nothing.
-use mathlib.Core.Path.{_≡_, refl, sym, ap, _∙_, subst}
+use mathlib.Core.Path.{_≡_, refl, sym}
 use Prim.Native.Nat.{ℕ, _≤_}
 use native.Mathlib.Omega.{arith}
 use mathlib.Core.List.{List}
 use mathlib.Core.Bool.{Bool, true, false, cond}
 use lib.ListN.{length}
-use lib.Dec.{leb}
 use borrow.Author.Tests.{leb-true, le-leb}
 use Rattle.walk.specs.Offsets.{offsets}
 use Rattle.walk.specs.Find.{countOf}
@@ -16,7 +15,7 @@ use Rattle.sheet.specs.declared.Counts.{Counts}
 use Rattle.sheet.specs.declared.Checked.{Checked}
 use Rattle.sheet.specs.declared.Checked.the-variants.{Sound, Refused}
 use Rattle.sheet.specs.Count.{countsOf}
-use Rattle.sheet.specs.Check.{firstNo, firstUnnamed, checkSheet}
+use Rattle.sheet.specs.Check.{checkSheet}
 use Rattle.sheet.specs.Passes.{all-right-later, sound-all-right, AllNamed, all-named-later, sound-all-named}
 
 pub record Valid (s : List ℕ) : Type 0 where

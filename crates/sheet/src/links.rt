@@ -2,7 +2,7 @@
 ghost use mathlib.Core.Path.{_≡_};
 ghost use Prim.Native.Nat.{_+_, _*_, _≤_};
 ghost use lib.ListN.{length};
-ghost use Rattle.walk.specs.Offsets.{offsets, offsetsFrom};
+ghost use Rattle.walk.specs.Offsets.{offsets};
 ghost use Rattle.walk.specs.Every.{All};
 ghost use Rattle.questions.specs.Tests.{every};
 ghost use Rattle.questions.specs.Shape.{listsAt};

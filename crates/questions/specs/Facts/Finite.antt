@@ -5,7 +5,7 @@ use Prim.Native.Nat.{ℕ, zero, suc, _+_, _*_, _/_, _%_, _<_}
 use mathlib.Core.List.{List}
 use mathlib.Core.Bool.{Bool, true, false, not, cond}
 use lib.Dec.{eqb, leb}
-use lib.Ieee.{Float, nan, inf, fin, binary64, ofBits, ofFields, odd, prec, low, hid, ones, top}
+use lib.Ieee.{Float, nan, inf, binary64, ofBits, ofFields, odd, prec, low, hid, ones, top}
 use Rattle.floats.specs.Order.{isFinite}
 use Rattle.fields.specs.Field.{f64At}
 use Rattle.walk.specs.Offsets.{lengthAt, kindAt}

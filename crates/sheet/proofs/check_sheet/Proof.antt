@@ -1,7 +1,7 @@
 -- `sheet::check_sheet` meets its contract: each way through the code is one of the answers by what leads to it.
 -- Assumes nothing.
-use mathlib.Core.Path.{_≡_, refl, sym, ap, _∙_, subst}
-use Prim.Native.Nat.{ℕ, _≤_, _<_}
+use mathlib.Core.Path.{_≡_, sym, ap, _∙_}
+use Prim.Native.Nat.{ℕ}
 use mathlib.Core.List.{List}
 use native.Mathlib.Omega.{arith}
 use denote.Ref.{now}
@@ -10,10 +10,9 @@ use Rattle.walk.specs.Find.{countOf}
 use Rattle.walk.specs.Every.{All}
 use Rattle.questions.specs.Record.{Right}
 use Rattle.sheet.specs.declared.Counts.{Counts}
-use Rattle.sheet.specs.declared.Checked.{Checked}
-use Rattle.sheet.specs.declared.Checked.the-variants.{Sound, Refused}
+use Rattle.sheet.specs.declared.Checked.the-variants.{Sound}
 use Rattle.sheet.specs.Count.{countsOf}
-use Rattle.sheet.specs.Check.{firstNo, firstUnnamed, checkSheet}
+use Rattle.sheet.specs.Check.{firstNo, firstUnnamed}
 use Rattle.sheet.specs.Passes.{sound-all-right}
 use Rattle.sheet.specs.Answers.{too-long, record-refused, too-many-cells, then-links}
 use borrow.Author.Needs.{needs}

@@ -1,11 +1,10 @@
 -- Every float of a record that is found in a valid sheet is finite, field by field.
 -- Assumes nothing.
-use mathlib.Core.Path.{_≡_, refl, sym, ap, _∙_, subst}
-use Prim.Native.Nat.{ℕ, _+_, _-_, _*_, _/_, _≤_, _<_}
+use mathlib.Core.Path.{_≡_, refl}
+use Prim.Native.Nat.{ℕ, _+_, _*_, _<_}
 use native.Mathlib.Omega.{arith}
 use mathlib.Core.List.{List}
-use mathlib.Core.Bool.{true, cond}
-use lib.Dec.{eqb}
+use mathlib.Core.Bool.{true}
 use Rattle.floats.specs.Order.{isFinite}
 use Rattle.fields.specs.Field.{f64At}
 use Rattle.walk.specs.Offsets.{lengthAt, kindAt}
@@ -14,7 +13,7 @@ use Rattle.walk.specs.declared.Found.the-variants.{At}
 use Rattle.questions.specs.Floats.{floatsFrom, floatsCount}
 use Rattle.questions.specs.Facts.Finite.{float-finite}
 use Rattle.sheet.specs.Valid.{Valid}
-use Rattle.sheet.specs.Laws.Lengths.{found-right, pointsAt, Points, node-points}
+use Rattle.sheet.specs.Laws.Lengths.{found-right, pointsAt, node-points}
 
 -- ---- Definitions
 

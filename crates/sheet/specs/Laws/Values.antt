@@ -1,7 +1,7 @@
 -- The columns, rows, flags and source of a reference, the flags of a cell, and absent boxes, in a valid sheet.
 -- Assumes nothing.
 use mathlib.Core.Path.{_≡_, sym, ap, _∙_}
-use Prim.Native.Nat.{ℕ, _+_, _/_, _%_, _≤_, _<_}
+use Prim.Native.Nat.{ℕ, _+_, _/_, _%_, _≤_}
 use native.Mathlib.Omega.{arith}
 use mathlib.Core.List.{List}
 use mathlib.Core.Bool.{true}
@@ -16,7 +16,7 @@ use Rattle.questions.specs.Facts.Numbers.{GridOk, FlagsOk, zero-box-fields, ref
 use Rattle.sheet.specs.Valid.{Valid}
 use Rattle.sheet.specs.Laws.Lengths.{found-right}
 
--- "An absent box is 32 zero bytes.": each of its floats is +0
+-- "An absent box is 32 zero bytes.": so each of its floats is the one whose pattern is 0
 pub record ZeroBox (s : List ℕ) (at : ℕ) : Type 0 where
   pub min-x : uintAt 8 s at ≡ 0
   pub min-y : uintAt 8 s (at + 8) ≡ 0
@@ -34,6 +34,10 @@ zero-box s at e =
       max-x = eqb-true _ _ (both-second _ _ three);
       max-y = eqb-true _ _ (both-second _ _ all);
     }
+
+pub zero-field-float : (s : List ℕ) (at : ℕ) → uintAt 8 s at ≡ 0 → f64At s at ≡ ofBits binary64 0
+unfolding f64At
+zero-field-float s at e = ap (ofBits binary64) e
 
 module _ (s : List ℕ) (valid : Valid s) (n at : ℕ) where
   -- question 4 of a reference: its columns and rows, its flags, its source's kind and number, and its box

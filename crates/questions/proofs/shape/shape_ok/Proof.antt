@@ -1,6 +1,6 @@
 -- `questions::shape::shape_ok` meets its contract. A cell shorter than 56 bytes is never right, whatever its counts are.
 -- Assumes nothing.
-use mathlib.Core.Path.{_≡_, sym}
+use mathlib.Core.Path.{_≡_}
 use Prim.Native.Nat.{_+_, _*_}
 use native.Mathlib.Omega.{arith}
 use denote.Ref.{now}

@@ -1,20 +1,19 @@
 -- `sheet::links::links` meets its contract. The loop's invariant: the records from here on are right, no more references were passed than bytes,
 -- and the first record from here on that names what is missing is the first of all. Assumes nothing.
-use Prim.Native.Nat.{ℕ, _+_, _-_, _≤_, _<_}
+use Prim.Native.Nat.{ℕ, _+_, _-_, _≤_}
 use mathlib.Core.Path.{_≡_, refl, sym, ap, _∙_}
 use native.Mathlib.Omega.{arith}
 use borrow.Author.Needs.{needs}
 use mathlib.Core.List.{List}
 use lib.ListN.{length}
 use denote.Ref.{now}
-use Rattle.walk.specs.Offsets.{kindAt, lengthAt, offsetsFrom, offsets, offsets-more, offsets-end}
+use Rattle.walk.specs.Offsets.{lengthAt, offsetsFrom, offsets, offsets-more, offsets-end}
 use Rattle.walk.specs.Every.{All, all-step}
 use Rattle.questions.specs.Record.{Right}
 use Rattle.sheet.specs.declared.Checked.the-variants.{Sound}
-use Rattle.sheet.specs.Count.{tallied}
 use Rattle.sheet.specs.Check.{firstUnnamed}
 use Rattle.sheet.specs.Passes.{first-unnamed-pass, first-unnamed-stop}
-use Rattle.sheet.proofs.Passed.{tallied-at-most}
+use Rattle.sheet.proofs.Passed.{tallied-next}
 use Rattle.sheet.proofs.links.links.Statement.{statement}
 use Rattle.sheet.proofs.links.links.Tie as tie
 
@@ -65,7 +64,7 @@ loop-again c =
     let counts = i .before .before .before .args .c in
     rw (c .u32-within .ensures, c .before .tally .ensures, c .before .before .u16-within .ensures) (
       step i .1,
-      omega (arith, tallied-at-most (l .own) (kindAt s (l .at)) 4, step i .0 .whole),
+      tallied-next _ _ _ _ _ (l .inv .1) (step i .0 .whole .head),
       sym (ap (λ (xs : List ℕ). firstUnnamed s counts (l .own) xs (Sound counts)) (offsets-more s (l .at) (i .loop-test .taken) (step i .0 .whole .head))
           ∙ first-unnamed-pass s counts (l .own) (l .at) _ (Sound counts) (sym (t .before .link-ok .ensures) ∙ t .if1 .taken))
           ∙ l .inv .2,

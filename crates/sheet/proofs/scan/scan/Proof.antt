@@ -1,17 +1,16 @@
 -- `sheet::scan::scan` meets its contract. The loop's invariant: the counts are those of the records passed,
 -- and the first no from here on is the first no of all. Assumes nothing.
-use Prim.Native.Nat.{ℕ, _+_, _-_, _≤_, _<_}
+use Prim.Native.Nat.{ℕ, _-_}
 use mathlib.Core.Path.{_≡_, refl, sym, ap, _∙_}
 use native.Mathlib.Omega.{arith}
 use borrow.Author.Needs.{needs}
 use mathlib.Core.List.{List}
 use lib.ListN.{length}
 use denote.Ref.{now}
-use Rattle.walk.specs.Offsets.{kindAt, lengthAt, offsetsFrom, offsets, offsets-some, offsets-more, offsets-end}
-use Rattle.questions.specs.Record.{recordNo, Right, no-zero-right}
-use Rattle.sheet.specs.declared.Checked.{Checked}
-use Rattle.sheet.specs.declared.Checked.the-variants.{Sound}
-use Rattle.sheet.specs.Count.{countsOf, counted}
+use Rattle.walk.specs.Offsets.{offsetsFrom, offsets, offsets-some, offsets-more, offsets-end}
+use Rattle.questions.specs.Record.{Right, no-zero-right}
+use Rattle.sheet.specs.declared.Checked.the-variants.{Sound, Refused}
+use Rattle.sheet.specs.Count.{countsOf}
 use Rattle.sheet.specs.Check.{firstNo}
 use Rattle.sheet.specs.Passes.{first-no-pass, first-no-stop}
 use Rattle.sheet.proofs.Passed.{Passed, passed-step, passed-end}
@@ -39,7 +38,10 @@ returns c =
     let l = i .before .loop in
     let s = now (i .before .before .before .args .s) in
     let some-more = offsets-some s (l .at) (i .loop-test .taken) in
-    cc (some-more .1, first-no-stop s (l .at) (some-more .0) (Sound (countsOf s)) (λ e. c .if1 .taken (c .before .record-no .ensures ∙ e)))
+    ap (λ (n : ℕ). Refused n (l .at)) (c .before .record-no .ensures)
+    ∙ sym (first-no-stop s (l .at) (some-more .0) (Sound (countsOf s)) (λ e. c .if1 .taken (c .before .record-no .ensures ∙ e)))
+    ∙ sym (ap (λ (xs : List ℕ). firstNo s xs (Sound (countsOf s))) (some-more .1))
+    ∙ l .inv .1
 
 add-u16-within : tie.Need-add-u16-within Inv-loop μ-loop
 add-u16-within c = omega (arith, right c .whole)

@@ -1,0 +1,78 @@
+-- `sheet_vectors::compare` is safe and ends: every case takes at least its head. The loop's invariant: the sheet keeps its length.
+-- Assumes nothing.
+use Prim.Native.Nat.{_-_}
+use mathlib.Core.Path.{_≡_, refl}
+use native.Mathlib.Omega.{arith}
+use lib.ListN.{length}
+use borrow.Author.Needs.{needs}
+use Rattle.sheet_vectors.proofs.compare.Statement.{statement}
+use Rattle.sheet_vectors.proofs.compare.Tie as tie
+
+abbrev Inv-loop : tie.InvT-loop
+Inv-loop cases sheet₀ number at₀ t₀ sheet at t = length sheet ≡ length sheet₀
+
+abbrev μ-loop : tie.MeasureT-loop
+μ-loop cases sheet₀ number at₀ t₀ sheet at t = length cases - at
+
+loop-holds : tie.Need-loop-holds Inv-loop μ-loop
+loop-holds c = refl
+
+case-at-requires : tie.Need-case-at-requires Inv-loop μ-loop
+case-at-requires c κs = omega arith
+
+compare-one-requires : tie.Need-compare-one-requires Inv-loop μ-loop
+compare-one-requires c κs = omega arith
+
+cast-at : tie.Need-cast-at Inv-loop μ-loop
+cast-at c = search needs
+
+add-at : tie.Need-add-at Inv-loop μ-loop
+add-at c = search needs
+
+cast-at-2 : tie.Need-cast-at-2 Inv-loop μ-loop
+cast-at-2 c = search needs
+
+add-at-2 : tie.Need-add-at-2 Inv-loop μ-loop
+add-at-2 c = search needs
+
+cast-at-3 : tie.Need-cast-at-3 Inv-loop μ-loop
+cast-at-3 c = search needs
+
+add-at-3 : tie.Need-add-at-3 Inv-loop μ-loop
+add-at-3 c = search needs
+
+add-at-4 : tie.Need-add-at-4 Inv-loop μ-loop
+add-at-4 c = search needs
+
+loop-less : tie.Need-loop-less Inv-loop μ-loop
+loop-less c = omega arith
+
+loop-again : tie.Need-loop-again Inv-loop μ-loop
+loop-again c = search needs
+
+same-length : tie.Need-same-length Inv-loop μ-loop
+same-length c = search needs
+
+returns : tie.Need-returns Inv-loop μ-loop
+returns c = tt
+
+pub compare-spec : {M : Type 1} → statement M
+compare-spec =
+    tie.close
+    (tie.spec
+    Inv-loop
+    μ-loop
+    loop-holds
+    case-at-requires
+    compare-one-requires
+    cast-at
+    add-at
+    cast-at-2
+    add-at-2
+    cast-at-3
+    add-at-3
+    add-at-4
+    loop-less
+    loop-again
+    same-length
+    returns)
