@@ -1,0 +1,16 @@
+-- Facts about the rules.
+--     Cases             what the rules answer, computed: the P cases, whole plans, whole calls
+--     Simulation        the one induction over the rules, for two runs side by side
+--     Invariant         the same for one run
+--     TapeTheorem       the bytes are the events' records
+--     OutcomeTheorem    the outcome by code path, and by the run that writes
+--     Paths             the rules by code path, for proofs about code
+--     Memory            the lent scratch is the Rust's memory
+-- Assumes nothing.
+pub mod Cases
+pub mod Simulation
+pub mod Invariant
+pub mod TapeTheorem
+pub mod OutcomeTheorem
+pub mod Paths
+pub mod Memory

@@ -1,0 +1,31 @@
+// What a plan passes on by value: the totals with the tape's end, the query without its hidden layers, and the answer of a call.
+// No code: the rules themselves are in specs/.
+use geometry::bbox::WorldBBox;
+
+// The tape's end, the texts and proxies listed so far, and the six totals of `SceneStats` in its field order.
+// The limits are tested on these numbers, so one struct stands for the Rust's `ScenePlan` with its lists' lengths.
+pub struct ScenePlan {
+    pub tape_end: u64,
+    pub texts: u64,
+    pub load_proxies: u64,
+    pub detail_cells: u64,
+    pub detail_objects: u64,
+    pub culled_references: u64,
+    pub skipped_subpixel_references: u64,
+    pub culled_geometry_batches: u64,
+    pub skipped_subpixel_geometry_batches: u64,
+}
+
+// "A query: root cell 4, depth 4, view 4 f, zoom f": the hidden layers stand in a slice beside it.
+pub struct SceneOptions {
+    pub root: u32,
+    pub depth: u32,
+    pub view: WorldBBox,
+    pub zoom: f64,
+}
+
+// What a call answers: the tape's length in bytes, or a refusal's number and offset.
+pub enum Answer {
+    Planned(usize),
+    Refused(u32, usize),
+}
