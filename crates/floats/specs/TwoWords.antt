@@ -19,7 +19,7 @@ pub record LeadingWord (w m s : ℕ) : Type 0 where
   pub room : w * 2 ^ s < 2 ^ 128
   pub rounds : RoundsToOdd m (w * 2 ^ s) (2 ^ 64)
 
--- an operand of the aligned sum, x * 2 ^ e: x is 0, or has its top bit at bit 124 to 126, and its last four bits are 0
+-- an operand of the aligned sum, x * 2 ^ e: a zero has the exponent 0, any other x its top bit at bit 124 to 126, and the last four bits are 0
 pub record Operand (x e : ℕ) : Type 0 where
   pub even : x % 16 ≡ 0
   pub under : x < 2 ^ 127

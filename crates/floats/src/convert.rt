@@ -1,4 +1,5 @@
-// Conversions to f32, rounded to nearest, ties to even, as Rust's `as` has them.
+// Conversions to f32, rounded to nearest, ties to even, as Rust's `as` has them. An f32 has 24 digits, its
+// exponent field is 255 at an infinity, and its smallest value is 2^-149.
 ghost use mathlib.Core.Path.{_≡_};
 ghost use mathlib.Core.Bool.{not};
 ghost use lib.Dec.{T};

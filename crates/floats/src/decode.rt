@@ -2,6 +2,7 @@
 // A finite value is its significand times 2^(its exponent - 1074).
 ghost use mathlib.Core.Path.{_≡_};
 ghost use Rattle.floats.specs.Fields.{exponentFieldOf, significandOf, exponentOf, Normalised};
+use crate::rounding::leading_zeros;
 
 // The exponent's field of the pattern n: 0 for a zero or a subnormal, 7ff for an infinity or a NaN.
 pub(crate) fn exponent_field_of(n: u64) -> u64
@@ -51,7 +52,7 @@ pub(crate) fn normalised(n: u64) -> Scaled
             exponent: 0,
         };
     }
-    let zeros = crate::rounding::leading_zeros(digits);
+    let zeros = leading_zeros(digits);
     let exponent = exponent_of(n);
     Scaled {
         significand: digits << (zeros - 1),

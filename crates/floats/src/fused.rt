@@ -177,7 +177,9 @@ fn aligned_sum(s: bool, xh: u64, xl: u64, e: u64, t: bool, yh: u64, yl: u64, d: 
     round_wide(s, w.hi, w.lo, e)
 }
 
-// The pattern of n / 2^2274 with the sign s, rounded, where the two words stand for n / 2^e.
+// The pattern of n / 2^2274 with the sign s, rounded, where the two words are n / 2^e rounded to odd. An
+// f64 has 53 digits, its exponent field is 2047 at an infinity, and its smallest value is 2^-1074, which
+// is 2^1200 of what n counts.
 fn round_wide(s: bool, hi: u64, lo: u64, e: u64) -> u64
     requires { ⌜ e < 2 ^ 31 ⌝ }
     ensures { λ r. ⌜ ((n : ℕ) → RoundsWideToOdd (words hi lo) n (2 ^ e) → Encodes binary64 r (round binary64 s n (2 ^ 2274))) ⌝ }

@@ -5,6 +5,7 @@ ghost use Prim.Native.Nat.{ℕ, _+_, _-_, _*_, _^_, _≤_, _<_};
 ghost use lib.Dec.{ltb};
 ghost use Rattle.floats.specs.RoundToOdd.{RoundsToOdd, withSticky};
 ghost use Rattle.floats.specs.TwoWords.{words, wide, LeadingWord};
+use crate::rounding::leading_zeros;
 
 pub(crate) struct Wide {
     pub(crate) hi: u64,
@@ -118,13 +119,13 @@ pub(crate) fn leading_word(hi: u64, lo: u64) -> Leading
     ensures { λ r. ⌜ LeadingWord (words hi lo) (r .word) (r .shift) ⌝ }
 {
     if hi == 0 {
-        let s = crate::rounding::leading_zeros(lo);
+        let s = leading_zeros(lo);
         Leading {
             word: lo << s,
             shift: s + 64,
         }
     } else {
-        let s = crate::rounding::leading_zeros(hi);
+        let s = leading_zeros(hi);
         let word = (hi << s) | ((lo >> (63 - s)) >> 1);
         let kept = with_sticky(word, lo << s);
         Leading {

@@ -59,8 +59,8 @@ module _ (n : ℕ) (h : n < 2 ^ 64) where
         (subst (λ (v : Float). Encodes binary32 (cond s (2 ^ 31) 0 + 0) v) (sym narrow-is)
         (encodes-zero binary32 s (significandOf n * 2 ^ exponentOf n) (2 ^ 1074) (ap (λ (x : ℕ). x * 2 ^ exponentOf n) z ∙ zero-mul (2 ^ exponentOf n)) (pow-pos 1074)))
 
-    pub narrow-encodes : (u r : ℕ) → IsLeadingZeros (significandOf n) u → r ≡ packed 24 255 (significandOf n * 2 ^ u % 2 ^ 64) (exponentOf n) (u + 925) → Encodes binary32 (bitOr (sign n) r) (narrow (ofBits binary64 n))
-    narrow-encodes u r t e =
+    encodes-exactly : (u r : ℕ) → IsLeadingZeros (significandOf n) u → r ≡ packed 24 255 (significandOf n * 2 ^ u % 2 ^ 64) (exponentOf n) (u + 925) → Encodes binary32 (bitOr (sign n) r) (narrow (ofBits binary64 n))
+    encodes-exactly u r t e =
         let m = significandOf n * 2 ^ u in
         let y = packed 24 255 m (exponentOf n) (u + 925) in
         let q : y ≡ r = ap (λ (m : ℕ). packed 24 255 m (exponentOf n) (u + 925)) (sym (mod-eq-of-lt (t .2))) ∙ sym e in
@@ -68,6 +68,9 @@ module _ (n : ℕ) (h : n < 2 ^ 64) where
         subst (λ (x : ℕ). Encodes binary32 x (narrow (ofBits binary64 n))) (ap (λ (x : ℕ). cond s (2 ^ 31) 0 + x) q ∙ sym (signed n 31 r h (lit< tt) l))
         (subst (λ (v : Float). Encodes binary32 (cond s (2 ^ 31) 0 + y) v) (sym narrow-is)
         (encodes-rounded binary32 s (significandOf n * 2 ^ exponentOf n) (2 ^ 1074) m (exponentOf n) (u + 925) (pow-pos 1074) (t .1) (t .2) (significand-to-odd (significandOf n) u (exponentOf n) 149 925 1074 refl)))
+
+    pub narrow-encodes : (digits exponent u r : ℕ) → digits ≡ significandOf n → exponent ≡ exponentOf n → IsLeadingZeros digits u → r ≡ packed 24 255 (digits * 2 ^ u % 2 ^ 64) exponent (u + 925) → Encodes binary32 (bitOr (sign n) r) (narrow (ofBits binary64 n))
+    narrow-encodes digits exponent u r D E t e = encodes-exactly u r (subst (λ (x : ℕ). IsLeadingZeros x u) D t) (e ∙ (λ i. packed 24 255 (D i * 2 ^ u % 2 ^ 64) (E i) (u + 925)))
 
 pub narrow-nan : narrow nan ≡ nan
 unfolding narrow

@@ -32,7 +32,7 @@ round-wide-some s w e r n m u g q a p h =
     (encodes-rounded binary64 s n (2 ^ 2274) m (e + 64) (u + 1200) (pow-pos 2274) (a .least) (a .under) (to-odd-in-units n m e u 1074 1200 (wide-to-odd-leading w n e m u h a)))
 
 -- ---- `aligned_sum`: x at the exponent e, and y, which shifted down by d is z, rounded to odd
-module _ (s t : Bool) (X Y z e d : ℕ) (A : Operand X e) (B : Operand Y (e - d)) (D : d ≤ e) (S : RoundsToOdd z Y (2 ^ d)) where
+module _ (s t : Bool) {X Y e : ℕ} (z d : ℕ) (A : Operand X e) (B : Operand Y (e - d)) (D : d ≤ e) (S : RoundsToOdd z Y (2 ^ d)) where
   abbrev n : ℕ
   n = Y * 2 ^ (e - d)
 

@@ -15,7 +15,7 @@ pub operand-zero : Operand 0 0
 operand-zero = record { even = refl; under = lit< tt; least = inl refl; short = lit< tt }
 
 -- ---- the product
-module _ (x y um ue vm ve w : ℕ) (U : Normalised x um ue) (W : Normalised y vm ve) (q : w ≡ um * vm) where
+module _ {x y um ue vm ve w : ℕ} (U : Normalised x um ue) (W : Normalised y vm ve) (q : w ≡ um * vm) where
   pub product-value : w * 2 ^ (ue + ve) ≡ unitsOf x * unitsOf y * 2 ^ 126
   product-value =
       (λ i. q i * pow-add 2 ue ve i)
@@ -54,7 +54,7 @@ module _ (x y um ue vm ve w : ℕ) (U : Normalised x um ue) (W : Normalised y vm
       some m (inr h) f = h
 
 -- ---- the addend
-module _ (z m e : ℕ) (W : Normalised z m e) where
+module _ {z m e : ℕ} (W : Normalised z m e) where
   addend-value : m * 2 ^ e * 2 ^ 1137 ≡ unitsOf z * 2 ^ 1200
   addend-value = ap (λ (k : ℕ). k * 2 ^ 1137) (W .value) ∙ mul-assoc (unitsOf z) (2 ^ 63) (2 ^ 1137)
 

@@ -12,6 +12,7 @@ use lib.Pow.{pow-pos}
 use Rattle.floats.specs.Fma.{fma}
 use Rattle.floats.specs.Fields.{exponentFieldOf}
 use Rattle.floats.specs.Packed.{Encodes}
+use Rattle.floats.specs.TwoWords.{Operand}
 use Rattle.floats.proofs.decode.Reading.{unitsOf, value}
 use Rattle.floats.proofs.Naturals.{sub-sub-cancel}
 use Rattle.floats.proofs.fused.Sums.{sum-same, sum-swap}
@@ -52,8 +53,8 @@ fma-at f (fin s' m e) (fin t' n d) (fin u' h g) s t u X Y Z l k L K a b c =
     ∙ (λ i. sum f (unlike (a .0 i) (b .0 i)) (X * Y * k) (c .0 i) (Z * (l * k)) (l * l * k))
 
 -- ---- the fused operation by patterns: s, P and a are the product's sign, words and exponent, t, Q and b the addend's
-module _ (x y z : ℕ) (f : exponentFieldOf x ≡ 2047 → ⊥) (g : exponentFieldOf y ≡ 2047 → ⊥) (h : exponentFieldOf z ≡ 2047 → ⊥) (s t : Bool) (P a Q b : ℕ)
-    (S : s ≡ unlike (leb (2 ^ 63) x) (leb (2 ^ 63) y)) (U : t ≡ leb (2 ^ 63) z)
+module _ (x y z : ℕ) (f : exponentFieldOf x ≡ 2047 → ⊥) (g : exponentFieldOf y ≡ 2047 → ⊥) (h : exponentFieldOf z ≡ 2047 → ⊥) {s t : Bool} {P a Q b : ℕ}
+    (S : s ≡ unlike (leb (2 ^ 63) x) (leb (2 ^ 63) y)) (U : t ≡ leb (2 ^ 63) z) (A : Operand P a) (B : Operand Q b)
     (p : P * 2 ^ a ≡ unitsOf x * unitsOf y * 2 ^ 126) (q : Q * 2 ^ b ≡ unitsOf z * 2 ^ 1200) where
   abbrev answer : Float
   answer = fma binary64 (ofBits binary64 x) (ofBits binary64 y) (ofBits binary64 z)

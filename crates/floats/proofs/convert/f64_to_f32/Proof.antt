@@ -4,14 +4,14 @@ use mathlib.Core.Bool.{Bool, not}
 use lib.Dec.{T}
 use lib.Ieee.{binary32, binary64, fits, isNan, toBits}
 use lib.Ieee.Bits.{ofBits-toBits, nanBits-is}
-use lib.Ieee.Compare.{differs-from-itself}
 use borrow.Author.Needs.{needs}
 use Rattle.floats.specs.Narrow.{narrow}
-use Rattle.floats.proofs.Nans.{number-of-equal, zero-by-zero}
+use Rattle.floats.proofs.Nans.{nan-of-differs, number-of-equal, zero-by-zero}
 use Rattle.floats.proofs.convert.Narrowing.{narrow-nan}
 use Rattle.floats.proofs.convert.f64_to_f32.Statement.{statement}
 use Rattle.floats.proofs.convert.f64_to_f32.Tie as tie
 
+-- what owning an `f64` tells: the format holds it
 held : (c : tie.Start) → T (fits binary64 (c .args .x))
 held c = subst T (sym (c .good .0 .1)) tt
 
@@ -31,7 +31,7 @@ float-from-bits-result c = search needs
 
 returns : tie.Need-returns
 returns c =
-    zero-by-zero binary32 ∙ sym (ap narrow (differs-from-itself (c .before .args .x) (subst T (sym (c .if1 .taken)) tt)) ∙ narrow-nan)
+    zero-by-zero binary32 ∙ sym (ap narrow (nan-of-differs (c .before .args .x) (c .if1 .taken)) ∙ narrow-nan)
 
 returns-2 : tie.Need-returns-2
 returns-2 c =

@@ -1,16 +1,14 @@
 -- `floats::convert::narrow_pattern` meets its contract. Assumes nothing.
-use mathlib.Core.Path.{_≡_, sym, ap, _∙_, subst}
-use Prim.Native.Nat.{ℕ, _+_, _*_, _%_, _^_}
+use mathlib.Core.Path.{_≡_, sym, _∙_}
 use native.Mathlib.Omega.{arith}
 use borrow.Author.Needs.{needs}
-use Rattle.floats.specs.Packed.{packed}
-use Rattle.floats.specs.Fields.{exponentFieldOf, significandOf, exponentOf}
+use Rattle.floats.specs.Fields.{exponentFieldOf}
 use Rattle.floats.proofs.decode.Reading.{exponent-lt}
-use Rattle.floats.proofs.rounding.Normalising.{IsLeadingZeros}
 use Rattle.floats.proofs.convert.Narrowing.{narrow-infinite, narrow-zero, narrow-encodes}
 use Rattle.floats.proofs.convert.narrow_pattern.Statement.{statement}
 use Rattle.floats.proofs.convert.narrow_pattern.Tie as tie
 
+-- past the first test the field is no infinity's
 finite : (c : tie.Else1) → exponentFieldOf (c .before .before .args .n) ≡ 2047 → ⊥
 finite c e = c .if1 .left (c .before .exponent-field-of .ensures ∙ e)
 
@@ -51,11 +49,8 @@ returns-3 c =
     let t = e .before in
     let g = t .before .before in
     let s = g .before .before .before in
-    let m : g .significand-of .result ≡ significandOf (s .args .n) = g .significand-of .ensures in
-    let u = t .leading-zeros .result in
-    narrow-encodes (s .args .n) (s .fits .n .fits) (finite (g .before)) u (c .pack .result)
-    (subst (λ (x : ℕ). IsLeadingZeros x u) m (t .leading-zeros .ensures))
-    (c .pack .ensures ∙ ap (λ (x : ℕ). packed 24 255 (g .significand-of .result * 2 ^ u % 2 ^ 64) x (u + 925)) (e .exponent-of .ensures) ∙ ap (λ (x : ℕ). packed 24 255 (x * 2 ^ u % 2 ^ 64) (exponentOf (s .args .n)) (u + 925)) m)
+    narrow-encodes (s .args .n) (s .fits .n .fits) (finite (g .before)) (g .significand-of .result) (e .exponent-of .result) (t .leading-zeros .result) (c .pack .result)
+    (g .significand-of .ensures) (e .exponent-of .ensures) (t .leading-zeros .ensures) (c .pack .ensures)
 
 pub narrow-pattern-spec : {M : Type 1} → statement M
 narrow-pattern-spec =

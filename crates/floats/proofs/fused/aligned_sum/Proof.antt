@@ -30,7 +30,7 @@ add-requires : tie.Need-add-requires
 add-requires c κs =
     let J = c .before in
     let S = J .before in
-    (upper-lt (S .args .xh) (S .args .xl) (S .pre .0 .under), upper-lt (J .shift-to-odd .result .hi) (J .shift-to-odd .result .lo) (shifted-lt (S .args .s) (S .args .t) (words (S .args .xh) (S .args .xl)) (words (S .args .yh) (S .args .yl)) (wide (J .shift-to-odd .result)) (S .args .e) (S .args .d) (S .pre .0) (S .pre .1) (S .pre .2) (J .shift-to-odd .ensures)))
+    (upper-lt (S .args .xh) (S .args .xl) (S .pre .0 .under), upper-lt (J .shift-to-odd .result .hi) (J .shift-to-odd .result .lo) (shifted-lt (S .args .s) (S .args .t) (wide (J .shift-to-odd .result)) (S .args .d) (S .pre .0) (S .pre .1) (S .pre .2) (J .shift-to-odd .ensures)))
 
 round-wide-requires : tie.Need-round-wide-requires
 round-wide-requires c κs = search needs
@@ -40,7 +40,7 @@ returns c =
     let a = c .before in
     let J = a .before .before in
     let S = J .before in
-    sum-of-alike (S .args .s) (S .args .t) (words (S .args .xh) (S .args .xl)) (words (S .args .yh) (S .args .yl)) (wide (J .shift-to-odd .result)) (S .args .e) (S .args .d) (S .pre .0) (S .pre .1) (S .pre .2) (J .shift-to-odd .ensures) (a .before .if1 .taken) (wide (a .add .result)) (c .round-wide .result) (a .add .ensures) (c .round-wide .ensures)
+    sum-of-alike (S .args .s) (S .args .t) (wide (J .shift-to-odd .result)) (S .args .d) (S .pre .0) (S .pre .1) (S .pre .2) (J .shift-to-odd .ensures) (a .before .if1 .taken) (wide (a .add .result)) (c .round-wide .result) (a .add .ensures) (c .round-wide .ensures)
 
 is-less-requires : tie.Need-is-less-requires
 is-less-requires c κs = search needs
@@ -57,7 +57,7 @@ returns-2 c =
     let l = a .before .before in
     let J = l .before .before in
     let S = J .before in
-    difference-reversed (S .args .s) (S .args .t) (words (S .args .xh) (S .args .xl)) (words (S .args .yh) (S .args .yl)) (wide (J .shift-to-odd .result)) (S .args .e) (S .args .d) (S .pre .0) (S .pre .1) (S .pre .2) (J .shift-to-odd .ensures) (l .before .if1 .left) (less l (a .before .if2 .taken)) (wide (a .subtract .result)) (c .round-wide2 .result) (a .subtract .ensures) (c .round-wide2 .ensures)
+    difference-reversed (S .args .s) (S .args .t) (wide (J .shift-to-odd .result)) (S .args .d) (S .pre .0) (S .pre .1) (S .pre .2) (J .shift-to-odd .ensures) (l .before .if1 .left) (less l (a .before .if2 .taken)) (wide (a .subtract .result)) (c .round-wide2 .result) (a .subtract .ensures) (c .round-wide2 .ensures)
 
 subtract-requires-2 : tie.Need-subtract-requires-2
 subtract-requires-2 c κs = more (c .before) (c .if2 .left)
@@ -68,7 +68,7 @@ returns-3 c =
     let l = a .before .before in
     let J = l .before .before in
     let S = J .before in
-    difference-cancels (S .args .s) (S .args .t) (words (S .args .xh) (S .args .xl)) (words (S .args .yh) (S .args .yl)) (wide (J .shift-to-odd .result)) (S .args .e) (S .args .d) (S .pre .0) (S .pre .1) (S .pre .2) (J .shift-to-odd .ensures) (l .before .if1 .left) (more l (a .before .if2 .left)) (wide (a .subtract2 .result)) (a .subtract2 .ensures) (words-none (a .subtract2 .result .hi) (a .subtract2 .result .lo) (c .if3 .taken))
+    difference-cancels (S .args .s) (S .args .t) (wide (J .shift-to-odd .result)) (S .args .d) (S .pre .0) (S .pre .1) (S .pre .2) (J .shift-to-odd .ensures) (l .before .if1 .left) (more l (a .before .if2 .left)) (wide (a .subtract2 .result)) (a .subtract2 .ensures) (words-none (a .subtract2 .result .hi) (a .subtract2 .result .lo) (c .if3 .taken))
 
 round-wide-requires-3 : tie.Need-round-wide-requires-3
 round-wide-requires-3 c κs = search needs
@@ -79,7 +79,7 @@ returns-4 c =
     let l = a .before .before in
     let J = l .before .before in
     let S = J .before in
-    difference-leads (S .args .s) (S .args .t) (words (S .args .xh) (S .args .xl)) (words (S .args .yh) (S .args .yl)) (wide (J .shift-to-odd .result)) (S .args .e) (S .args .d) (S .pre .0) (S .pre .1) (S .pre .2) (J .shift-to-odd .ensures) (l .before .if1 .left) (more l (a .before .if2 .left)) (wide (a .subtract2 .result)) (a .subtract2 .ensures) (words-some (a .subtract2 .result .hi) (a .subtract2 .result .lo) (c .before .if3 .left)) (c .round-wide3 .result) (c .round-wide3 .ensures)
+    difference-leads (S .args .s) (S .args .t) (wide (J .shift-to-odd .result)) (S .args .d) (S .pre .0) (S .pre .1) (S .pre .2) (J .shift-to-odd .ensures) (l .before .if1 .left) (more l (a .before .if2 .left)) (wide (a .subtract2 .result)) (a .subtract2 .ensures) (words-some (a .subtract2 .result .hi) (a .subtract2 .result .lo) (c .before .if3 .left)) (c .round-wide3 .result) (c .round-wide3 .ensures)
 
 pub aligned-sum-spec : {M : Type 1} → statement M
 aligned-sum-spec =

@@ -39,14 +39,16 @@ returns c =
     let d = c .before .before in
     let m = d .before in
     let S = m .before in
-    addend-leads (S .args .x) (S .args .y) (S .args .z) (S .pre .0) (S .pre .1) (S .pre .2) _ _ (words (m .product-term .result .hi) (m .product-term .result .lo)) (m .product-term .result .exponent) (words (d .addend-term .result .hi) (d .addend-term .result .lo)) (d .addend-term .result .exponent) (unlike-bits (S .args .x) (S .args .y) (S .fits .x .fits) (S .fits .y .fits)) (sign-bit-is (S .args .z) (S .fits .z .fits)) (m .product-term .ensures .1) (d .addend-term .ensures .1) (c .before .if1 .taken) (c .aligned-sum .result) (c .aligned-sum .ensures)
+    addend-leads (S .args .x) (S .args .y) (S .args .z) (S .pre .0) (S .pre .1) (S .pre .2) (unlike-bits (S .args .x) (S .args .y) (S .fits .x .fits) (S .fits .y .fits)) (sign-bit-is (S .args .z) (S .fits .z .fits))
+    (m .product-term .ensures .0) (d .addend-term .ensures .0) (m .product-term .ensures .1) (d .addend-term .ensures .1) (c .before .if1 .taken) (c .aligned-sum .result) (c .aligned-sum .ensures)
 
 returns-2 : tie.Need-returns-2
 returns-2 c =
     let d = c .before .before in
     let m = d .before in
     let S = m .before in
-    product-leads (S .args .x) (S .args .y) (S .args .z) (S .pre .0) (S .pre .1) (S .pre .2) _ _ (words (m .product-term .result .hi) (m .product-term .result .lo)) (m .product-term .result .exponent) (words (d .addend-term .result .hi) (d .addend-term .result .lo)) (d .addend-term .result .exponent) (unlike-bits (S .args .x) (S .args .y) (S .fits .x .fits) (S .fits .y .fits)) (sign-bit-is (S .args .z) (S .fits .z .fits)) (m .product-term .ensures .1) (d .addend-term .ensures .1) (c .before .if1 .left) (c .aligned-sum2 .result) (c .aligned-sum2 .ensures)
+    product-leads (S .args .x) (S .args .y) (S .args .z) (S .pre .0) (S .pre .1) (S .pre .2) (unlike-bits (S .args .x) (S .args .y) (S .fits .x .fits) (S .fits .y .fits)) (sign-bit-is (S .args .z) (S .fits .z .fits))
+    (m .product-term .ensures .0) (d .addend-term .ensures .0) (m .product-term .ensures .1) (d .addend-term .ensures .1) (c .before .if1 .left) (c .aligned-sum2 .result) (c .aligned-sum2 .ensures)
 
 pub fused-pattern-spec : {M : Type 1} → statement M
 fused-pattern-spec =

@@ -1,21 +1,18 @@
 -- `floats::fused::mul_add_rounded` meets its contract. Assumes nothing.
-use mathlib.Core.Path.{_≡_, sym, ap, _∙_, subst}
-use mathlib.Core.Bool.{true, not}
+use mathlib.Core.Path.{sym, ap, _∙_, subst}
+use mathlib.Core.Bool.{not}
 use lib.Dec.{T}
-use lib.Ieee.{Float, nan, binary64, fits, isNan, ne}
+use lib.Ieee.{Float, binary64, fits, isNan}
 use lib.Ieee.Bits.{ofBits-toBits}
-use lib.Ieee.Compare.{differs-from-itself}
 use borrow.Author.Needs.{needs}
 use Rattle.floats.specs.Fma.{fma}
-use Rattle.floats.proofs.Nans.{zero-by-zero, number-of-equal}
+use Rattle.floats.proofs.Nans.{nan-of-differs, number-of-equal, zero-by-zero}
 use Rattle.floats.proofs.fused.Exceptional.{fma-nan-first, fma-nan-second, fma-nan-third, fma-infinite-first, fma-infinite-second, fma-infinite-third}
 use Rattle.floats.proofs.decode.Reading.{infinite-at, finite-at}
 use Rattle.floats.proofs.fused.mul_add_rounded.Statement.{statement}
 use Rattle.floats.proofs.fused.mul_add_rounded.Tie as tie
 
-is-nan : (x : Float) → ne x x ≡ true → x ≡ nan
-is-nan x h = differs-from-itself x (subst T (sym h) tt)
-
+-- what owning an `f64` tells: the format holds it
 fit-x : (s : tie.Start) → T (fits binary64 (s .args .x))
 fit-x s = subst T (sym (s .good .0 .1)) tt
 
@@ -25,6 +22,7 @@ fit-y s = subst T (sym (s .good .1 .0 .1)) tt
 fit-z : (s : tie.Start) → T (fits binary64 (s .args .z))
 fit-z s = subst T (sym (s .good .1 .1 .0 .1)) tt
 
+-- past the first three tests none of the operands is a NaN
 abbrev start : tie.Else3 → tie.Start
 start c = c .before .before .before
 
@@ -40,17 +38,17 @@ num-z c = number-of-equal (start c .args .z) (c .if3 .left)
 returns : tie.Need-returns
 returns c =
     let s = c .before in
-    zero-by-zero binary64 ∙ sym (ap (λ (v : Float). fma binary64 v (s .args .y) (s .args .z)) (is-nan (s .args .x) (c .if1 .taken)) ∙ fma-nan-first binary64 (s .args .y) (s .args .z))
+    zero-by-zero binary64 ∙ sym (ap (λ (v : Float). fma binary64 v (s .args .y) (s .args .z)) (nan-of-differs (s .args .x) (c .if1 .taken)) ∙ fma-nan-first binary64 (s .args .y) (s .args .z))
 
 returns-2 : tie.Need-returns-2
 returns-2 c =
     let s = c .before .before in
-    zero-by-zero binary64 ∙ sym (ap (λ (v : Float). fma binary64 (s .args .x) v (s .args .z)) (is-nan (s .args .y) (c .if2 .taken)) ∙ fma-nan-second binary64 (s .args .x) (s .args .z))
+    zero-by-zero binary64 ∙ sym (ap (λ (v : Float). fma binary64 (s .args .x) v (s .args .z)) (nan-of-differs (s .args .y) (c .if2 .taken)) ∙ fma-nan-second binary64 (s .args .x) (s .args .z))
 
 returns-3 : tie.Need-returns-3
 returns-3 c =
     let s = c .before .before .before in
-    zero-by-zero binary64 ∙ sym (ap (λ (v : Float). fma binary64 (s .args .x) (s .args .y) v) (is-nan (s .args .z) (c .if3 .taken)) ∙ fma-nan-third binary64 (s .args .x) (s .args .y))
+    zero-by-zero binary64 ∙ sym (ap (λ (v : Float). fma binary64 (s .args .x) (s .args .y) v) (nan-of-differs (s .args .z) (c .if3 .taken)) ∙ fma-nan-third binary64 (s .args .x) (s .args .y))
 
 float-to-bits-a : tie.Need-float-to-bits-a
 float-to-bits-a c = num-x c

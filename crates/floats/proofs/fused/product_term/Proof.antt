@@ -1,6 +1,5 @@
 -- `floats::fused::product_term` meets its contract. Assumes nothing.
 use borrow.Author.Needs.{needs}
-use Rattle.floats.specs.TwoWords.{wide}
 use Rattle.floats.proofs.wide.Shifts.{words-none, words-some}
 use Rattle.floats.proofs.fused.Terms.{operand-zero, product-value, product-none, product-operand}
 use Rattle.floats.proofs.fused.product_term.Statement.{statement}
@@ -20,7 +19,7 @@ returns c =
     let p = c .before .before in
     let v = p .before in
     let u = v .before in
-    (operand-zero, product-none (u .before .args .x) (u .before .args .y) (u .normalised .result .significand) (u .normalised .result .exponent) (v .normalised2 .result .significand) (v .normalised2 .result .exponent) (wide (p .multiply .result)) (u .normalised .ensures) (v .normalised2 .ensures) (p .multiply .ensures) (words-none (p .multiply .result .hi) (p .multiply .result .lo) (c .if1 .taken)))
+    (operand-zero, product-none (u .normalised .ensures) (v .normalised2 .ensures) (p .multiply .ensures) (words-none (p .multiply .result .hi) (p .multiply .result .lo) (c .if1 .taken)))
 
 add-t8 : tie.Need-add-t8
 add-t8 c = search needs
@@ -31,8 +30,8 @@ returns-2 c =
     let p = l .before .before in
     let v = p .before in
     let u = v .before in (
-      product-operand (u .before .args .x) (u .before .args .y) (u .normalised .result .significand) (u .normalised .result .exponent) (v .normalised2 .result .significand) (v .normalised2 .result .exponent) (wide (p .multiply .result)) (u .normalised .ensures) (v .normalised2 .ensures) (p .multiply .ensures) (words-some (p .multiply .result .hi) (p .multiply .result .lo) (l .if1 .left)),
-      product-value (u .before .args .x) (u .before .args .y) (u .normalised .result .significand) (u .normalised .result .exponent) (v .normalised2 .result .significand) (v .normalised2 .result .exponent) (wide (p .multiply .result)) (u .normalised .ensures) (v .normalised2 .ensures) (p .multiply .ensures),
+      product-operand (u .normalised .ensures) (v .normalised2 .ensures) (p .multiply .ensures) (words-some (p .multiply .result .hi) (p .multiply .result .lo) (l .if1 .left)),
+      product-value (u .normalised .ensures) (v .normalised2 .ensures) (p .multiply .ensures),
     )
 
 pub product-term-spec : {M : Type 1} → statement M

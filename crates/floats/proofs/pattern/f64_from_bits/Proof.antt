@@ -1,5 +1,5 @@
 -- `floats::pattern::f64_from_bits` meets its contract: the test is that of a NaN's pattern. Assumes nothing.
-use mathlib.Core.Path.{_≡_, sym, ap, _∙_, subst}
+use mathlib.Core.Path.{_≡_, sym, _∙_, subst}
 use mathlib.Core.Bool.{Bool, true, not}
 use Prim.Native.Nat.{ℕ, _<_, _≤_, _%_, _^_}
 use lib.Arith.{le→nltb}

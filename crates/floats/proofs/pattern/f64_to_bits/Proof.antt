@@ -1,10 +1,8 @@
 -- `floats::pattern::f64_to_bits` meets its contract. Assumes nothing.
-use mathlib.Core.Path.{_≡_, refl, sym, ap, _∙_, subst}
-use lib.Dec.{T}
+use mathlib.Core.Path.{_≡_, refl, sym, ap, _∙_}
 use lib.Ieee.{nan, binary64, toBits}
-use lib.Ieee.Compare.{differs-from-itself}
 use borrow.Author.Needs.{needs}
-use Rattle.floats.proofs.Nans.{number-of-equal}
+use Rattle.floats.proofs.Nans.{nan-of-differs, number-of-equal}
 use Rattle.floats.proofs.pattern.f64_to_bits.Statement.{statement}
 use Rattle.floats.proofs.pattern.f64_to_bits.Tie as tie
 
@@ -16,7 +14,7 @@ float-to-bits-result : tie.Need-float-to-bits-result
 float-to-bits-result c = number-of-equal (c .before .args .x) (c .if1 .left)
 
 returns : tie.Need-returns
-returns c = nan-pattern ∙ sym (ap (toBits binary64) (differs-from-itself (c .before .args .x) (subst T (sym (c .if1 .taken)) tt)))
+returns c = nan-pattern ∙ sym (ap (toBits binary64) (nan-of-differs (c .before .args .x) (c .if1 .taken)))
 
 returns-2 : tie.Need-returns-2
 returns-2 c = search needs

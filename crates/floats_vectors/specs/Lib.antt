@@ -1,0 +1,2 @@
+-- What the contracts of `floats_vectors` cite.
+pub mod Progress

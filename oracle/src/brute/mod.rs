@@ -1,0 +1,132 @@
+//! Demand 3 by brute force: small square sheets with true boxes, every path up to a bound, against the plan's events.
+//! Small limits are given to the instrumented planner, so that small sheets meet all four.
+
+mod check;
+pub mod exact;
+mod paths;
+
+use std::collections::{BTreeMap, BTreeSet};
+
+use crate::answer::PlanFn;
+use crate::coverage::cause_tag;
+use crate::events::{Event, Limits, Run, Settings};
+use crate::generator::query::near;
+use crate::generator::rng::Rng;
+use crate::generator::square::{Shape, with_true_boxes};
+use crate::sheet::{Query, Sheet};
+use paths::Paths;
+
+/// Paths beyond so many are not enumerated: the sheet is passed over, and counted as such.
+const MOST_PATHS: usize = 6_000;
+
+/// What a run of sheets came to.
+#[derive(Default)]
+pub struct Tally {
+    pub sheets: u64,
+    pub passed_over: u64,
+    pub paths: u64,
+    pub circles: u64,
+    pub events: u64,
+    pub faults: u64,
+    /// Sheets by what their plans show.
+    pub shown: BTreeMap<&'static str, u64>,
+    pub first: Option<String>,
+}
+
+fn shape(rng: &mut Rng) -> Shape {
+    Shape {
+        cells: rng.size(1, 4),
+        items: rng.size(1, 3),
+        references: rng.size(1, 5),
+        grid: rng.size(1, 3),
+        span: rng.pick(&[4, 12, 60, 200]),
+        spread: rng.pick(&[4, 12, 60, 200, 2_000, 2_000]),
+        circles: rng.pick(&[0, 0, 3, 6]),
+        missing: rng.pick(&[0, 1, 2]),
+        chains: rng.pick(&[0, 3, 6]),
+        empty: rng.pick(&[0, 1, 4]),
+        elements: rng.pick(&[1, 2, 300]),
+    }
+}
+
+fn limits(rng: &mut Rng) -> Limits {
+    if rng.chance(1, 3) {
+        return Limits::DOCUMENT;
+    }
+    let mut most = |low, high| if rng.chance(1, 3) { rng.size(low, high) } else { 100_000 };
+    Limits { cells: most(1, 5), objects: most(1, 8), texts: most(1, 5), proxies: most(1, 4) }
+}
+
+fn query(rng: &mut Rng, sheet: &Sheet) -> Query {
+    let mut query = near(rng, sheet);
+    if rng.chance(1, 6) {
+        query.zoom = 2f64.powi(rng.range(-12, 64) as i32);
+    }
+    if rng.chance(1, 8) {
+        let far = 2f64.powi(rng.range(31, 62) as i32);
+        query.view = [-far, -far, far, far];
+    }
+    query.view = query.view.map(f64::round);
+    query
+}
+
+/// What a plan shows, each once.
+fn shown(run: &Run) -> BTreeSet<&'static str> {
+    let kind = |event: &Event| match event {
+        Event::Batch { .. } => "batch",
+        Event::Text { .. } => "text",
+        Event::Point { .. } => "point",
+        Event::Proxy { cause, .. } => cause_tag(*cause),
+        Event::Dropped { .. } => "dropped",
+        Event::NodeGridLimit => "node grid's limit",
+        Event::Culled => "culled",
+        Event::MemberSkipped { .. } => "member skipped",
+        Event::BatchSkipped { .. } => "batch skipped",
+    };
+    run.record.events.iter().map(kind).collect()
+}
+
+/// One sheet by its seed: the fault, if any.
+fn one(plan: PlanFn, seed: u64, tally: &mut Tally) {
+    let mut rng = Rng::new(seed ^ 0x00c0_ffee);
+    let shape = shape(&mut rng);
+    let sheet = with_true_boxes(&mut rng, &shape);
+    if !exact::is_square(&sheet) || !exact::has_true_boxes(&sheet) {
+        tally.passed_over += 1;
+        return;
+    }
+    let query = query(&mut rng, &sheet);
+    let limits = limits(&mut rng);
+    // Two members beyond the depth: what lies deeper lies in the same boxes.
+    let Some(paths) = Paths::of(&sheet, query.root, query.depth.min(8) as usize + 2, MOST_PATHS) else {
+        tally.passed_over += 1;
+        return;
+    };
+    if paths.cut && query.depth > 8 {
+        tally.passed_over += 1;
+        return;
+    }
+    let run = plan(&sheet, &query, Settings { limits, trace: true });
+    tally.sheets += 1;
+    tally.paths += paths.items.len() as u64;
+    tally.circles += u64::from(paths.cut);
+    tally.events += run.record.events.len() as u64;
+    for shown in shown(&run) {
+        *tally.shown.entry(shown).or_default() += 1;
+    }
+    if let Some(fault) = check::fault(&sheet, &query, limits, &run, &paths) {
+        tally.faults += 1;
+        tally.first.get_or_insert(format!("seed {seed}, {limits:?}: {fault}"));
+    }
+}
+
+/// Checks sheets from a seed on, until `count` were checked, or a fault ends the search.
+pub fn search(plan: PlanFn, seed: u64, count: u64, stop_at_fault: bool) -> Tally {
+    let mut tally = Tally::default();
+    let mut seed = seed;
+    while tally.sheets < count && !(stop_at_fault && tally.faults > 0) {
+        one(plan, seed, &mut tally);
+        seed += 1;
+    }
+    tally
+}

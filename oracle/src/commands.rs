@@ -1,0 +1,157 @@
+//! The subcommands' own work: fresh cases, coverage, replays, and the table of edits.
+
+use std::io::Write;
+use std::panic::{AssertUnwindSafe, catch_unwind, resume_unwind};
+use std::path::Path;
+
+use crate::answer::Outcome;
+use crate::checksum::fnv1a;
+use crate::coverage::{Coverage, tags};
+use crate::edits::{ALTERATIONS, Edit, PIECES, SUBSTITUTIONS, instrument::INSTRUMENT, planted};
+use crate::events::{OutOfFuel, set_fuel};
+use crate::generator::{FAMILIES, Family, edges, faults, large::LARGE, make, make_edge, make_large};
+use crate::harness::{Oracle, Tally};
+use crate::stored::{answer, read_cases, read_large};
+use crate::variants::{JUDGE, checked};
+
+/// Steps that a fresh case may take; a hostile one is passed over.
+const FUEL: u64 = 5_000_000;
+
+/// The answer to a fresh case, unless it takes too long. Any other panic goes on.
+fn fresh(family: &Family, seed: u64) -> Option<(Vec<u8>, Outcome)> {
+    let input = make(family, seed);
+    set_fuel(FUEL);
+    let result = catch_unwind(AssertUnwindSafe(|| answer(&input)));
+    set_fuel(u64::MAX);
+    match result {
+        Ok(outcome) => Some((input, outcome)),
+        Err(panic) if panic.is::<OutOfFuel>() => None,
+        Err(panic) => resume_unwind(panic),
+    }
+}
+
+/// Fresh cases of every family, both copies checked against each other on each: cases run and passed over.
+pub fn fresh_cases(seed: u64, each: u64, coverage: &mut Coverage) -> (u64, u64) {
+    let (mut run, mut passed_over) = (0, 0);
+    for family in FAMILIES {
+        for seed in seed..seed + each {
+            match fresh(family, seed) {
+                Some((_, outcome)) => {
+                    coverage.add(&tags(&outcome));
+                    run += 1;
+                }
+                None => passed_over += 1,
+            }
+        }
+    }
+    (run, passed_over)
+}
+
+/// Coverage of hand-made, fresh, large and lent cases together.
+pub fn coverage(seed: u64, each: u64) {
+    let mut coverage = Coverage::default();
+    let (run, passed_over) = fresh_cases(seed, each, &mut coverage);
+    let mut hand = 0;
+    let inputs = edges::all().iter().map(make_edge).collect::<Vec<_>>();
+    for input in inputs.into_iter().chain(faults::all().into_iter().map(|fault| fault.input)) {
+        coverage.add(&tags(&answer(&input)));
+        hand += 1;
+    }
+    for large in LARGE {
+        coverage.add(&tags(&answer(&make_large(large))));
+    }
+    let mut subject = Oracle { plan: checked, judge: JUDGE };
+    let tally = crate::harness::run(&mut subject, seed, each, false);
+    for (tag, number) in [("refusal-11", 11), ("refusal-12", 12)] {
+        for _ in 0..tally.numbers.get(&number).copied().unwrap_or(0) {
+            coverage.add_tag(tag);
+        }
+    }
+    coverage.add(&tags(&(JUDGE.program)(checked, &[0; 65], 64)));
+    println!("{run} fresh, {hand} by hand, {} large, {} calls on lent memory; {passed_over} passed over as hostile", LARGE.len(), tally.calls);
+    print!("{}", coverage.table());
+}
+
+/// The tags that neither a stored case shows nor, for numbers 11 and 12, a call on lent memory, nor a small buffer.
+pub fn gaps(folder: &Path, tally: &Tally) -> Vec<&'static str> {
+    let mut coverage = crate::stored::coverage(folder);
+    for (tag, number) in [("refusal-11", 11), ("refusal-12", 12)] {
+        if tally.numbers.contains_key(&number) {
+            coverage.add_tag(tag);
+        }
+    }
+    coverage.add(&tags(&(JUDGE.program)(checked, &[0; 65], 64)));
+    coverage.gaps()
+}
+
+/// Writes fresh cases as in cases.bin, each before with its family and seed for the comparison's report.
+pub fn write_cases(seed: u64, each: u64, out: &mut impl Write) {
+    for family in FAMILIES {
+        for seed in seed..seed + each {
+            let Some((input, outcome)) = fresh(family, seed) else { continue };
+            let label = format!("{} seed {seed}", family.name);
+            for part in [label.as_bytes(), &input, &outcome.text] {
+                out.write_all(&(part.len() as u32).to_le_bytes()).unwrap();
+            }
+            for part in [label.as_bytes(), &input, &outcome.text] {
+                out.write_all(part).unwrap();
+            }
+        }
+    }
+}
+
+/// Replays the stored answers with the oracle itself.
+pub fn replay(folder: &Path) -> (usize, usize) {
+    let (mut passed, mut failed) = (0, 0);
+    for (number, case) in read_cases(folder).iter().enumerate() {
+        let good = answer(&case.input).text == case.text;
+        if !good {
+            println!("stored case {number} differs");
+        }
+        passed += usize::from(good);
+        failed += usize::from(!good);
+    }
+    for (number, (case, sum)) in LARGE.iter().zip(read_large(folder)).enumerate() {
+        let good = fnv1a(&answer(&make_large(case)).text) == sum;
+        if !good {
+            println!("large case {number} differs");
+        }
+        passed += usize::from(good);
+        failed += usize::from(!good);
+    }
+    (passed, failed)
+}
+
+/// The planted mistakes by number.
+pub fn print_mistakes() {
+    for (place, mistake) in planted::all().enumerate() {
+        println!("{:4} {:?} {:?}: {}", place + 1, mistake.place, mistake.seen, mistake.name);
+    }
+}
+
+fn edit_rows(title: &str, edits: &[Edit]) -> String {
+    let mut text = format!("\n## {title}\n\n| places | found | put | why |\n|---|---|---|---|\n");
+    let cell = |text: &str| text.trim().replace('\n', " ⏎ ").replace('|', "\\|");
+    for edit in edits {
+        text += &format!("| {} | `{}` | `{}` | {} |\n", edit.count, cell(edit.find), cell(edit.put), edit.why);
+    }
+    if edits.is_empty() {
+        text += "| - | none | - | - |\n";
+    }
+    text
+}
+
+/// Everything that is taken from the seed and changed in it: EDITS.md.
+pub fn edits_page() -> String {
+    let mut text = String::from(
+        "# What is taken from the seed, and every edit of it\n\nMade by `oracle edits`; `oracle/quick` checks that it \
+         is up to date. build.rs asserts the first and last line of each piece, and that each edit meets exactly its \
+         count of places.\n\n## Pieces\n\n| piece | file | lines |\n|---|---|---|\n",
+    );
+    for piece in PIECES {
+        text += &format!("| {} | {} | {} to {} |\n", piece.name, piece.file, piece.lines.0, piece.lines.1);
+    }
+    text += &edit_rows("Substitutions in both copies", SUBSTITUTIONS);
+    text += &edit_rows("Alterations by change requests, in both copies", ALTERATIONS);
+    text + &edit_rows("The instrumented copy", INSTRUMENT)
+}

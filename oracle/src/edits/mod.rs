@@ -1,0 +1,152 @@
+// What is taken from the seed Rust, and every change made to it: tables only.
+// Read twice: by build.rs, which applies and asserts them, and by the subcommand `edits`, which prints them.
+// A find text quotes no more of the seed than is needed to meet its place.
+
+// Only build.rs cuts and merges texts.
+#[allow(dead_code)]
+pub mod bodies;
+pub mod instrument;
+pub mod planted;
+
+/// A run of whole lines of one seed file, read by build.rs. The first and the last line are asserted.
+#[allow(dead_code)]
+pub struct Piece {
+    pub name: &'static str,
+    pub file: &'static str,
+    pub lines: (usize, usize),
+    pub first: &'static str,
+    pub last: &'static str,
+    /// Text of ours around the piece (the head or the end of an `impl` that is cut).
+    pub before: &'static str,
+    pub after: &'static str,
+}
+
+/// A replacement that must meet exactly `count` places.
+pub struct Edit {
+    pub why: &'static str,
+    pub count: usize,
+    pub find: &'static str,
+    pub put: &'static str,
+}
+
+pub const SCENE: &str = "crates/gdsr-viewer/src/bevy_scene.rs";
+pub const DRAWABLE: &str = "crates/gdsr-viewer/src/drawable.rs";
+pub const GRID: &str = "crates/gdsr/src/grid.rs";
+
+const fn whole(
+    name: &'static str,
+    file: &'static str,
+    lines: (usize, usize),
+    first: &'static str,
+    last: &'static str,
+) -> Piece {
+    Piece { name, file, lines, first, last, before: "", after: "" }
+}
+
+pub const PIECES: &[Piece] = &[
+    Piece {
+        name: "Grid and its readers",
+        file: GRID,
+        lines: (6, 81),
+        first: "#[derive(Clone, Debug, PartialEq)]",
+        last: "    }",
+        before: "",
+        after: "}\n",
+    },
+    whole("WorldBBox", DRAWABLE, (11, 44), "#[derive(Clone, Copy, Debug)]", "}"),
+    whole(
+        "limits of collapse",
+        DRAWABLE,
+        (246, 249),
+        "const REF_LOAD_THRESHOLD_PX: f32 = 24.0;",
+        "const REF_MAX_GRID_EXPANSION: u64 = 8_192;",
+    ),
+    whole(
+        "should_collapse_reference",
+        DRAWABLE,
+        (1126, 1151),
+        "pub fn should_collapse_reference(",
+        "}",
+    ),
+    whole(
+        "limits of the planner",
+        SCENE,
+        (9, 16),
+        "const MAX_DETAIL_CELLS: usize = 20_000;",
+        "const MIN_FIXED_CONTENT_PX: f32 = 24.0;",
+    ),
+    whole("prepared library and plan", SCENE, (31, 123), "pub struct PreparedGeometry {", "}"),
+    Piece {
+        name: "PreparedLibrary::plan",
+        file: SCENE,
+        lines: (377, 398),
+        first: "    pub fn plan(&self, cell_name: &str, options: &SceneOptions<'_>) -> ScenePlan {",
+        last: "    }",
+        before: "impl PreparedLibrary {\n",
+        after: "}\n",
+    },
+    whole("Planner: visits, pushes, draw units", SCENE, (415, 724), "struct Planner<'a> {", "}"),
+    whole(
+        "point_position",
+        SCENE,
+        (752, 754),
+        "fn point_position(point: &Point) -> DVec2 {",
+        "}",
+    ),
+    whole(
+        "grid_count to point_in_bbox",
+        SCENE,
+        (756, 837),
+        "fn grid_count(grid: &Grid) -> u64 {",
+        "}",
+    ),
+];
+
+/// Made in both copies, the unmodified one too: what a stand-in needs.
+pub const SUBSTITUTIONS: &[Edit] = &[
+    Edit {
+        why: "merge takes the first of equal values, which f64::min leaves open",
+        count: 2,
+        find: ".min(other.",
+        put: ".first_least(other.",
+    },
+    Edit {
+        why: "merge takes the first of equal values, which f64::max leaves open",
+        count: 2,
+        find: ".max(other.",
+        put: ".first_greatest(other.",
+    },
+    Edit {
+        why: "an inner reference is shared, not copied, so that long chains stay small",
+        count: 1,
+        find: "Reference(Box<PreparedReference>)",
+        put: "Reference(Arc<PreparedReference>)",
+    },
+    Edit {
+        why: "a reference listed by several cells is shared, not copied",
+        count: 1,
+        find: "references: Vec<PreparedReference>",
+        put: "references: Vec<Arc<PreparedReference>>",
+    },
+];
+
+/// Lines that a change request alters in the judge itself, made in both copies. None yet.
+pub const ALTERATIONS: &[Edit] = &[];
+
+#[allow(dead_code)]
+/// Applies the edits in order; each must meet exactly its count of places.
+pub fn apply(text: &str, edits: &[Edit], table: &str) -> String {
+    let mut text = text.to_string();
+    for edit in edits {
+        let found = text.matches(edit.find).count();
+        assert!(
+            found == edit.count,
+            "{table}: `{}` met {found} places, not {} ({})",
+            edit.find,
+            edit.count,
+            edit.why
+        );
+        text = text.replace(edit.find, edit.put);
+    }
+    text
+}

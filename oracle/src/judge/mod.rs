@@ -1,0 +1,7 @@
+//! Document 01's questions, memory states, tape and print, in plain Rust and apart from any Rattle code.
+//! build.rs compiles these files again for the planted mistakes, so they name each other by `super`.
+
+pub mod call;
+pub mod program;
+pub mod reader;
+pub mod tape;

@@ -1,0 +1,152 @@
+//! The judge of demand 2: the Rust planner's own text over stand-ins, a generator, stored answers, planted mistakes
+//! and demand 3 by brute force. README.md says what each subcommand does.
+
+// Without the seed much here has no caller.
+#![cfg_attr(seedless, allow(dead_code, unused_imports))]
+
+mod answer;
+mod brute;
+mod checksum;
+mod commands;
+mod coverage;
+mod edits;
+mod events;
+mod generator;
+mod harness;
+mod judge;
+mod planted;
+mod readings;
+mod sheet;
+mod stored;
+mod timing;
+mod variants;
+
+use std::io::{Read, Write, stdin, stdout};
+use std::path::{Path, PathBuf};
+use std::process::exit;
+
+const USAGE: &str = "oracle COMMAND: plan [BUFFER] | planted-plan NUMBER | edits | mistakes | coverage EACH [SEED] |
+  cases EACH [SEED] | large NUMBER | store | verify | replay | choose SEEDS | planted | cover COUNT [SEED] |
+  memory COUNT [SEED] | timings | quick";
+
+fn stored_folder() -> PathBuf {
+    Path::new(env!("CARGO_MANIFEST_DIR")).join("stored")
+}
+
+fn input() -> Vec<u8> {
+    let mut input = Vec::new();
+    stdin().read_to_end(&mut input).expect("input");
+    input
+}
+
+/// Prints the closing line and ends with the verdict.
+fn verdict((passed, failed): (usize, usize)) -> ! {
+    println!("{passed} passed, {failed} failed");
+    exit(i32::from(failed > 0));
+}
+
+fn main() {
+    let arguments: Vec<String> = std::env::args().skip(1).collect();
+    let command = arguments.first().map_or("", String::as_str);
+    let number = |place: usize, otherwise: u64| {
+        arguments.get(place).map_or(otherwise, |text| text.parse().expect("a number"))
+    };
+    let folder = stored_folder();
+    match command {
+        "plan" => plan(number(1, u64::MAX) as usize),
+        "planted-plan" => planted_plan(number(1, 1) as usize),
+        "edits" => print(commands::edits_page().as_bytes()),
+        "mistakes" => commands::print_mistakes(),
+        "coverage" => commands::coverage(number(2, 0), number(1, 100)),
+        "cases" => commands::write_cases(number(2, 0), number(1, 10), &mut stdout().lock()),
+        "large" => {
+            let case = &generator::large::LARGE[number(1, 0) as usize];
+            print(&generator::make_large(case));
+        }
+        "store" => stored::store(&folder),
+        "verify" => {
+            let different = stored::verify(&folder);
+            verdict((3 - different, different));
+        }
+        "replay" => verdict(commands::replay(&folder)),
+        "choose" => planted::choose(&folder, number(1, 100)),
+        "planted" => verdict(planted::run(&folder, true)),
+        "cover" => cover(number(2, 0), number(1, 1_000)),
+        "memory" => memory(number(2, 0), number(1, 1_000)),
+        "timings" => timing::run(),
+        "quick" => quick(&folder),
+        _ => {
+            eprintln!("{USAGE}");
+            exit(2);
+        }
+    }
+}
+
+fn print(bytes: &[u8]) {
+    stdout().write_all(bytes).expect("output");
+}
+
+/// The program `plan`, judged.
+fn plan(buffer: usize) {
+    variants::copies();
+    print(&(variants::JUDGE.program)(variants::checked, &input(), buffer).text);
+}
+
+/// The program `plan` with a planted mistake.
+fn planted_plan(number: usize) {
+    let mistake = edits::planted::all().nth(number - 1).expect("a mistake of that number");
+    print(&planted::text_with(number, mistake, &input()).unwrap_or_default());
+}
+
+/// Demand 3 by brute force.
+fn cover(seed: u64, count: u64) {
+    let tally = brute::search(variants::checked, seed, count, false);
+    println!(
+        "{} sheets with {} paths and {} events; {} with paths cut at depth + 2 members (circles); {} passed over",
+        tally.sheets, tally.paths, tally.events, tally.circles, tally.passed_over
+    );
+    println!("sheets that show: {:?}", tally.shown);
+    if let Some(first) = &tally.first {
+        println!("first fault: {first}");
+    }
+    verdict(((tally.sheets - tally.faults) as usize, tally.faults as usize));
+}
+
+/// Calls on lent memory: the judge's own answers and memory against document 01's sentences.
+fn memory(seed: u64, count: u64) {
+    let mut subject = harness::Oracle { plan: variants::copies().instrumented, judge: variants::JUDGE };
+    let tally = harness::run(&mut subject, seed, count, false);
+    println!("calls by number: {:?}", tally.numbers);
+    if let Some(first) = &tally.first {
+        println!("first fault: {first}");
+    }
+    verdict(((tally.calls - tally.broken) as usize, tally.broken as usize));
+}
+
+/// The quick tests: both copies on fresh cases, stored answers, planted mistakes, brute force, memory.
+fn quick(folder: &Path) -> ! {
+    let (mut passed, mut failed) = (0, 0);
+    let mut add = |what: &str, (good, bad): (usize, usize)| {
+        println!("{what}: {good} passed, {bad} failed");
+        passed += good;
+        failed += bad;
+    };
+    let page = std::fs::read_to_string(folder.join("../EDITS.md")).unwrap_or_default();
+    let current = usize::from(page == commands::edits_page());
+    add("EDITS.md is up to date", (current, 1 - current));
+    add("document 01's readings", readings::run());
+    add("stored answers", commands::replay(folder));
+    let mut coverage = coverage::Coverage::default();
+    let (run, _) = commands::fresh_cases(1_000_000, 300, &mut coverage);
+    add("fresh cases, both copies alike", (run as usize, 0));
+    let tally = brute::search(variants::checked, 1_000_000, 3_000, false);
+    add("demand 3 by brute force", ((tally.sheets - tally.faults) as usize, tally.faults as usize));
+    let mut subject = harness::Oracle { plan: variants::copies().instrumented, judge: variants::JUDGE };
+    let tally = harness::run(&mut subject, 1_000_000, 3_000, false);
+    add("memory after calls as stated", ((tally.calls - tally.broken) as usize, tally.broken as usize));
+    let gaps = commands::gaps(folder, &tally);
+    gaps.iter().for_each(|tag| println!("no stored case shows {tag}"));
+    add("coverage of the stored cases, by tag", (coverage::TAGS.len() - gaps.len(), gaps.len()));
+    add("planted mistakes", planted::run(folder, false));
+    verdict((passed, failed));
+}

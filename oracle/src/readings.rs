@@ -1,0 +1,97 @@
+//! Document 01's "Readings at the edges" and its worked example, as its own sentences have them.
+//! The stored answers are the oracle's; these are the paper's, and the oracle must meet them.
+
+use crate::generator::{edges, encode::single, make_edge};
+use crate::sheet::{Sheet, Source};
+use crate::stored::answer;
+use crate::variants::copies;
+
+/// What the printed text must show.
+enum Shows {
+    Exactly(&'static str),
+    /// So many lines that begin so.
+    Lines(&'static str, usize),
+    /// The totals line.
+    Totals(&'static str),
+}
+use Shows::{Exactly, Lines, Totals};
+
+const READINGS: &[(&str, Shows)] = &[
+    ("worked example", Exactly("text 0 4024000000000000 4034000000000000\ntotals 1 1 0 0 0 0\n")),
+    ("empty sheet, depth 1", Exactly("totals 0 0 0 0 0 0\n")),
+    ("empty sheet, depth 0", Exactly("totals 0 0 0 0 0 0\n")),
+    // Grid 64 x 128 = 8,192 may expand; 3 x 2,731 = 8,193 collapses.
+    ("grid 64 x 128", Exactly("totals 8193 0 0 0 0 0\n")),
+    ("grid 3 x 2731", Totals("totals 1 0 0 0 0 0")),
+    ("grid 3 x 2731", Lines("proxy 1 ", 1)),
+    // Units 127 are never dense. Units 128 at 64 x 32 px collapse, at 64 x 33 px not.
+    ("reference of 127 units at 64 x 31 px", Lines("proxy", 0)),
+    ("reference of 127 units at 64 x 32 px", Lines("proxy", 0)),
+    ("reference of 128 units at 64 x 32 px", Lines("proxy 1 ", 1)),
+    ("reference of 128 units at 64 x 33 px", Lines("proxy", 0)),
+    // A batch of 128 at 64 x 32 px becomes a proxy; 127 is listed.
+    ("batch of 128 at 64 x 32 px", Lines("proxy none ", 1)),
+    ("batch of 128 at 64 x 32 px", Lines("batch", 0)),
+    ("batch of 127 at 64 x 32 px", Lines("batch 0 ", 1)),
+    // 0.5 x 0.5 px is skipped, 1 x 0.5 px not. Side 24 px passes, anything below collapses.
+    ("batch at 0.5 x 0.5 px", Exactly("totals 1 0 0 0 0 1\n")),
+    ("batch at 1 x 0.5 px", Lines("batch 0 ", 1)),
+    ("members at 0.5 x 0.5 px", Totals("totals 1 0 0 4 0 0")),
+    ("members at 1 x 0.5 px", Lines("proxy 1 ", 4)),
+    ("reference at 24 x 24 px", Exactly("totals 2 0 0 0 0 0\n")),
+    ("reference at 23.99999 x 24 px", Lines("proxy 1 ", 1)),
+    ("reference at 24 x 23.99999 px", Lines("proxy 1 ", 1)),
+    // Count 16,777,217 becomes 16,777,216 as f32; 16,777,219 becomes 16,777,220.
+    ("reference of 16777217 units at 16384 x 16384 px", Lines("proxy 1 ", 1)),
+    ("reference of 16777219 units at 4194305 x 64 px", Lines("proxy 1 ", 1)),
+    ("reference of 16777219 units at 4194306 x 64 px", Lines("proxy", 0)),
+    // Fused (1 + 2^-52) x (1 - 2^-52) - 1 is -2^-104, not 0.
+    ("fused difference of -2^-104", Lines("text 0 b970000000000000 4000000000000000", 1)),
+    // A 2 x 3 grid of a cell with 0 units counts 6; zero columns count 0.
+    ("122 units and a 2 x 3 grid of a cell with 0, depth 3", Lines("proxy 1 ", 1)),
+    ("121 units and a 2 x 3 grid of a cell with 0, depth 3", Lines("proxy 1 ", 0)),
+    ("127 units and a 0 x 3 grid, depth 3", Lines("proxy 1 ", 0)),
+    // Depth 0 gives just one proxy if the root has a box that overlaps the view.
+    ("one reference, depth 0", Lines("proxy 0 ", 1)),
+    ("one reference out of view, depth 0", Exactly("totals 0 0 0 0 0 0\n")),
+    ("root without a box, depth 0", Exactly("totals 0 0 0 0 0 0\n")),
+    // A circle of cells ends in a proxy if the cell met again has a box, else in nothing.
+    ("circle of two cells, box true, depth 5", Lines("proxy 0 ", 2)),
+    ("circle of two cells, box false, depth 5", Lines("proxy", 0)),
+    ("one reference, depth 33", Exactly("refused 10 0\n")),
+];
+
+fn holds(text: &str, shows: &Shows) -> bool {
+    match shows {
+        Exactly(expected) => text == *expected,
+        Lines(start, count) => text.lines().filter(|line| line.starts_with(start)).count() == *count,
+        Totals(expected) => text.lines().last() == Some(expected),
+    }
+}
+
+/// "Cells 0 (5 units) and 1 (7 units) refer to each other once."
+fn remembered() -> bool {
+    let mut sheet = Sheet::default();
+    let to_one = sheet.reference(single(Source::Cell(1), None));
+    let to_zero = sheet.reference(single(Source::Cell(0), None));
+    sheet.cell(5, None).references.push(to_one);
+    sheet.cell(7, None).references.push(to_zero);
+    let draw_units = copies().draw_units;
+    draw_units(&sheet, &[(0, 3), (1, 2)]) == [13, 8] && draw_units(&sheet, &[(1, 2)]) == [13]
+}
+
+/// The numbers passed and failed.
+pub fn run() -> (usize, usize) {
+    let edges = edges::all();
+    let mut results = vec![("remembered counts", remembered())];
+    for (label, shows) in READINGS {
+        let edge = edges.iter().find(|edge| edge.label == *label).expect("a case of that label");
+        let text = String::from_utf8(answer(&make_edge(edge)).text).unwrap();
+        results.push((label, holds(&text, shows)));
+    }
+    for (label, _) in results.iter().filter(|result| !result.1) {
+        println!("the reading does not hold: {label}");
+    }
+    let passed = results.iter().filter(|result| result.1).count();
+    (passed, results.len() - passed)
+}

@@ -1,0 +1,6 @@
+// Random cases that were chosen because they show a planted mistake that the others do not: family and seed.
+
+pub const CHOSEN: &[(&str, u64)] = &[
+    ("chains", 110), // sizes are narrowed before they are zoomed
+    ("density", 21), // a cell's own units count once for the cell and once for its batches
+];
