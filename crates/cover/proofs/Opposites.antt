@@ -1,0 +1,276 @@
+-- CONTROLLED OPPOSITES: plans of rules that are changed in one place. Each leaves a trace that differs from the rules' in that place, and demand 3 is false of it.
+--     load left out at a limit · proxy with the wrong box · culling by the wrong edge · skipping on one side only · a member skipped at a circle · a path listed twice · a proxy dropped too early
+-- Beside each stands the trace that the rules leave. Assumes nothing.
+use mathlib.Core.Path.{_≡_, refl, ap, subst}
+use mathlib.Core.Bool.{false}
+use mathlib.Core.List.{[], _∷_}
+use Prim.Native.Nat.{ℕ, _+_, _≤_, _<_}
+use native.Mathlib.Omega.{arith}
+use lib.ListN.{replicate}
+use lib.IntN.{negsuc}
+use lib.Ieee.{fin}
+use Rattle.geometry.specs.declared.bbox.WorldBBox.{WorldBBox}
+use Rattle.geometry.specs.Placement.{IDENTITY}
+use Rattle.records.specs.declared.PreparedSource.the-variants.{Cell}
+use Rattle.records.specs.declared.PreparedText.{PreparedText}
+use Rattle.records.specs.declared.PreparedGeometry.{PreparedGeometry}
+use Rattle.records.specs.declared.PreparedReference.{PreparedReference}
+use Rattle.layout.specs.Sheet.{CellRecord, Sheet}
+use Rattle.exact.specs.Placement.{ExactPlacement, identity}
+use Rattle.exact.specs.Box.{IntegerBox, Holds, IsBox, boxOf}
+use Rattle.exact.specs.Screen.{isUnderOnePixel}
+use Rattle.exact.proofs.Floats.Reading.{integerOf-same}
+use Rattle.rules.specs.Event.{Event, batch, text, point, proxy, droppedProxy, skippedMember, skippedBatch, culledReference, culledBatch, nodeGridLimit, detailCell, totals, batchAt, textAt, referenceAt, member, emptyPlan}
+use Rattle.rules.specs.World.{Query}
+use Rattle.rules.proofs.Cases.Opened.{opened}
+use Rattle.rules.proofs.Cases.Samples.{whole, spot, page, sheetOfLists, batchOf, textAtSpot, refer, cellOf, viewing}
+use Rattle.cover.specs.Path.{Path, Item, aBatch, aText, memberAt, to-batch, to-text, to-reference, through-member, at-batch, at-text, step, LeadsTo}
+use Rattle.cover.specs.View.{textPosition, WithinBox, InView}
+use Rattle.cover.specs.Trace.{Trace, events, All, and-then, Any, here, before, text-record}
+use Rattle.geometry.specs.Screen.{screenSize}
+use Rattle.cover.specs.Covered.{UnderOnePixel, Lists, lists-batch, lists-text, lists-point, IsSkip, batch-skip, Skipped, skipped-member, skipped-batch, Covers, listed, within-proxy, within-dropped-proxy, in-skipped, follows}
+use Rattle.cover.specs.Demand3.{LosesNothing}
+use Rattle.cover.proofs.Examples.Lists.{whole-same, box-holds, withoutTotals}
+
+-- ---- how an event covers a path, by the event
+
+module _ (S : Sheet) (q : Query) where
+  abbrev Reason : Path → Item → Path → Event → Type 0
+  Reason p h place (batch n m) = (p ≡ place) × Lists h (batch n m)
+  Reason p h place (text n v) = (p ≡ place) × Lists h (text n v)
+  Reason p h place (point l k v) = (p ≡ place) × Lists h (point l k v)
+  Reason p h place (proxy l b) = (z : IntegerBox) × IsBox b z × WithinBox h z
+  Reason p h place (droppedProxy l b) = (z : IntegerBox) × IsBox b z × WithinBox h z
+  Reason p h place (skippedMember g b) = Skipped S q place (skippedMember g b)
+  Reason p h place (skippedBatch b) = Skipped S q place (skippedBatch b)
+  Reason p h place culledReference = ⊥
+  Reason p h place culledBatch = ⊥
+  Reason p h place nodeGridLimit = Unit {0}
+  Reason p h place detailCell = ⊥
+  Reason p h place (totals s) = ⊥
+
+  listed-reason : (p : Path) (h : Item) (e : Event) → Lists h e → Reason p h p e
+  listed-reason p h e (lists-batch i) = (refl, lists-batch i)
+  listed-reason p h e (lists-text i) = (refl, lists-text i)
+  listed-reason p h e (lists-point i) = (refl, lists-point i)
+
+  skipped-reason : (p : Path) (h : Item) (place : Path) (e : Event) → Skipped S q place e → Reason p h place e
+  skipped-reason p h place e (skipped-member b r f eb c< r< i u) = skipped-member b r f eb c< r< i u
+  skipped-reason p h place e (skipped-batch r f i u) = skipped-batch r f i u
+
+  reason : {p : Path} {h : Item} {place : Path} {e : Event} → Covers S q p h place e → Reason p h place e
+  reason {p = p} {h = h} {e = e} (listed l) = listed-reason p h e l
+  reason (within-proxy {z = z} i w) = (z, i, w)
+  reason (within-dropped-proxy {z = z} i w) = (z, i, w)
+  reason {p = p} {h = h} {place = place} {e = e} (in-skipped r s z) = skipped-reason p h place e s
+  reason (follows x y r g late z) = tt
+
+-- ---- one text: document 01's worked sheet
+
+abbrev label : PreparedText
+label = textAtSpot 10 20
+
+abbrev labelCell : CellRecord
+labelCell = cellOf 1 (page 100 100) [] (0 ∷ []) [] []
+
+abbrev labelled : Sheet
+labelled = sheetOfLists [] (label ∷ []) [] [] (labelCell ∷ [])
+
+abbrev see : ℕ → Query
+see limit = viewing (page 100 100) (whole 1) 1 limit
+
+abbrev labelPath : Path
+labelPath = textAt 0 ∷ []
+
+leads : LeadsTo labelled 0 labelPath (aText 0 label identity)
+leads = step (to-text {n = 0} {i = 0} {c = labelCell} refl (omega arith)) (at-text refl)
+
+-- the point (x, y) at the identity lies in a box from (0, 0)
+held : (w h x y : ℕ) → w ≤ 1000 → h ≤ 1000 → x ≤ w → y ≤ h → Holds (boxOf (page w h)) (textPosition (textAtSpot x y) identity)
+held w h x y p q r s =
+    let k = box-holds 0 0 w h x y (record { x = omega arith; y = omega arith; right = omega arith; top = omega arith }) (omega arith) (omega arith) r s in
+    let l = k .left in
+    let u = k .right in
+    let b = k .bottom in
+    let t = k .top in
+    record { left = omega arith; right = omega arith; bottom = omega arith; top = omega arith }
+
+seen : InView (page 100 100) (aText 0 label identity)
+seen = held 100 100 10 20 (omega arith) (omega arith) (omega arith) (omega arith)
+
+abbrev Lost : (limit : ℕ) → Trace → Type 0
+Lost limit trace = LosesNothing labelled (see limit) trace → ⊥
+
+-- what the rules leave where no object may be listed: the cell's box
+limit-plan : events labelled 1 (see 0) (replicate 3 0) (replicate 1 0) ≡ ([], totals (record { «tape_end» = 42; texts = 0; «load_proxies» = 1; «detail_cells» = 0; «detail_objects» = 0; «culled_references» = 0; «skipped_subpixel_references» = 0; «culled_geometry_batches» = 0; «skipped_subpixel_geometry_batches» = 0 }))
+    ∷ ([], proxy 0 (page 100 100)) ∷ []
+unfolding opened
+limit-plan = refl
+
+-- the box left out
+load-left-out : Lost 0 (([], totals emptyPlan) ∷ [])
+load-left-out l = by (l .covered labelPath (aText 0 label identity) leads seen tt)
+  where
+    by : Any (λ (x : Path × Event). Covers labelled (see 0) labelPath (aText 0 label identity) (x .0) (x .1)) (([], totals emptyPlan) ∷ []) → ⊥
+    by (here c) = reason labelled (see 0) c
+    by (before a) = elim a [ ]
+
+-- a box that does not hold the text
+wrong-box : Lost 0 (([], totals emptyPlan) ∷ ([], proxy 0 (page 15 15)) ∷ [])
+wrong-box l = by (l .covered labelPath (aText 0 label identity) leads seen tt)
+  where
+    outside : (z : IntegerBox) → IsBox (page 15 15) z → Holds z (textPosition label identity) → ⊥
+    outside z i h =
+        let k = h .top in
+        let e = integerOf-same (whole 15) (z .«max_y») (i .«max_y») in
+        let f = whole-same 15 (omega arith) in
+        let g = whole-same 20 (omega arith) in
+        let y : ⊥ = omega arith in
+        y
+
+    by : Any (λ (x : Path × Event). Covers labelled (see 0) labelPath (aText 0 label identity) (x .0) (x .1)) (([], totals emptyPlan) ∷ ([], proxy 0 (page 15 15)) ∷ []) → ⊥
+    by (here c) = reason labelled (see 0) c
+    by (before (here c)) = let k = reason labelled (see 0) c in outside (k .0) (k .1) (k .2)
+    by (before (before a)) = elim a [ ]
+
+-- a path listed twice
+twice : Lost 20000 ((labelPath, text 0 (spot 10 20)) ∷ (labelPath, text 0 (spot 10 20)) ∷ [])
+twice l = l .once .0 text-record (here (text-record, refl))
+
+-- a proxy dropped before 100,000 are listed
+dropped-early : Lost 0 (([], droppedProxy 0 (page 100 100)) ∷ [])
+dropped-early l = let e = l .dropped .0 0 (page 100 100) refl in let y : ⊥ = omega arith in y
+
+-- ---- one batch, 1 wide and 100 high
+
+abbrev strip : PreparedGeometry
+strip = batchOf 1 (page 1 100)
+
+abbrev stripCell : CellRecord
+stripCell = cellOf 1 (page 1 100) (0 ∷ []) [] [] []
+
+abbrev striped : Sheet
+striped = sheetOfLists (strip ∷ []) [] [] [] (stripCell ∷ [])
+
+-- at half a pixel a unit it measures 0.5 by 50 px
+abbrev half : Query
+half = viewing (page 100 100) (fin false 1 (negsuc 0)) 1 20000
+
+strip-leads : LeadsTo striped 0 (batchAt 0 ∷ []) (aBatch 0 strip identity)
+strip-leads = step (to-batch {n = 0} {i = 0} {c = stripCell} refl (omega arith)) (at-batch refl)
+
+strip-seen : InView (page 100 100) (aBatch 0 strip identity)
+strip-seen =
+    let a = whole-same 0 (omega arith) in
+    let b = whole-same 1 (omega arith) in
+    let c = whole-same 100 (omega arith) in
+    (omega arith, record { left = omega arith; right = omega arith; bottom = omega arith; top = omega arith })
+
+-- the rules list it
+strip-plan : withoutTotals (events striped 1 half (replicate 3 0) (replicate 1 0)) ≡ (batchAt 0 ∷ [], batch 0 IDENTITY) ∷ ([], detailCell) ∷ []
+unfolding opened
+strip-plan = refl
+
+-- its height is not under one pixel
+tall : (b : WorldBBox) → b ≡ page 1 100 → UnderOnePixel (screenSize b (half .zoom)) → ⊥
+unfolding opened isUnderOnePixel
+tall b e u = subst (λ (b : WorldBBox). UnderOnePixel (screenSize b (half .zoom))) e u
+
+box-of : Event → WorldBBox
+box-of (skippedBatch b) = b
+box-of (batch n p) = page 0 0
+box-of (text n v) = page 0 0
+box-of (point l k v) = page 0 0
+box-of (proxy l b) = b
+box-of (droppedProxy l b) = b
+box-of (skippedMember g b) = b
+box-of culledReference = page 0 0
+box-of culledBatch = page 0 0
+box-of nodeGridLimit = page 0 0
+box-of detailCell = page 0 0
+box-of (totals s) = page 0 0
+
+-- which events skip a batch
+skips : Event → ℕ
+skips (skippedBatch b) = 1
+skips (batch n p) = 0
+skips (text n v) = 0
+skips (point l k v) = 0
+skips (proxy l b) = 0
+skips (droppedProxy l b) = 0
+skips (skippedMember g b) = 0
+skips culledReference = 0
+skips culledBatch = 0
+skips nodeGridLimit = 0
+skips detailCell = 0
+skips (totals s) = 0
+
+not-skipped : (p : Path) (e : Event) → Skipped striped half p e → e ≡ skippedBatch (page 1 100) → ⊥
+unfolding box-of skips
+not-skipped p e (skipped-member b r f eb c< r< i u) z = absurd (let y : _≡_ {A = ℕ} 0 1 = ap skips z in let w : ⊥ = omega arith in w)
+not-skipped p e (skipped-batch {box = b} r f i u) z = tall b (ap box-of z) u
+
+-- skipped for its width alone
+skipped-on-one-side : LosesNothing striped half ((batchAt 0 ∷ [], skippedBatch (page 1 100)) ∷ ([], detailCell) ∷ []) → ⊥
+skipped-on-one-side l = by (l .skipped)
+  where
+    by : All (λ (x : Path × Event). IsSkip (x .1) → Skipped striped half (x .0) (x .1)) ((batchAt 0 ∷ [], skippedBatch (page 1 100)) ∷ ([], detailCell) ∷ []) → ⊥
+    by (and-then f k) = not-skipped (batchAt 0 ∷ []) (skippedBatch (page 1 100)) (f batch-skip) refl
+
+-- culled though it crosses the view's lower left corner
+wrong-edge : LosesNothing striped half ((batchAt 0 ∷ [], culledBatch) ∷ ([], detailCell) ∷ []) → ⊥
+wrong-edge l = by (l .covered (batchAt 0 ∷ []) (aBatch 0 strip identity) strip-leads strip-seen tt)
+  where
+    by : Any (λ (x : Path × Event). Covers striped half (batchAt 0 ∷ []) (aBatch 0 strip identity) (x .0) (x .1)) ((batchAt 0 ∷ [], culledBatch) ∷ ([], detailCell) ∷ []) → ⊥
+    by (here c) = reason striped half c
+    by (before (here c)) = reason striped half c
+    by (before (before a)) = elim a [ ]
+
+-- ---- a circle: cell 0 holds the text and itself
+
+abbrev again : PreparedReference
+again = refer 1 1 0 0 (Cell 0) (page 100 100)
+
+abbrev circularCell : CellRecord
+circularCell = cellOf 1 (page 100 100) [] (0 ∷ []) [] (0 ∷ [])
+
+abbrev circular : Sheet
+circular = sheetOfLists [] (label ∷ []) [] (again ∷ []) (circularCell ∷ [])
+
+abbrev deep : Query
+deep = viewing (page 100 100) (whole 1) 3 20000
+
+-- the text, once round
+abbrev roundPath : Path
+roundPath = referenceAt 0 ∷ member 0 0 ∷ textAt 0 ∷ []
+
+abbrev once : ExactPlacement
+once = memberAt identity again 0 0
+
+round-leads : LeadsTo circular 0 roundPath (aText 0 label once)
+round-leads = step (to-reference {n = 0} {i = 0} {c = circularCell} refl (omega arith)) (step (through-member {n = 0} {column = 0} {row = 0} {r = again} refl (omega arith) (omega arith)) (step (to-text {n = 0} {i = 0} {c = circularCell} refl (omega arith)) (at-text refl)))
+
+round-seen : InView (page 100 100) (aText 0 label once)
+unfolding opened
+round-seen = record { left = omega arith; right = omega arith; bottom = omega arith; top = omega arith }
+
+-- the rules end the circle in a proxy
+circle-plan : withoutTotals (events circular 1 deep (replicate 5 0) (replicate 3 0))
+    ≡ (referenceAt 0 ∷ member 0 0 ∷ [], proxy 0 (page 100 100)) ∷ (textAt 0 ∷ [], text 0 (spot 10 20)) ∷ ([], detailCell) ∷ []
+unfolding opened
+circle-plan = refl
+
+-- how many steps
+steps : Path → ℕ
+steps [] = 0
+steps (s ∷ p) = 1 + steps p
+
+-- without it
+skipped-at-circle : LosesNothing circular deep ((textAt 0 ∷ [], text 0 (spot 10 20)) ∷ ([], detailCell) ∷ []) → ⊥
+unfolding steps
+skipped-at-circle l = by (l .covered roundPath (aText 0 label once) round-leads round-seen tt)
+  where
+    by : Any (λ (x : Path × Event). Covers circular deep roundPath (aText 0 label once) (x .0) (x .1)) ((textAt 0 ∷ [], text 0 (spot 10 20)) ∷ ([], detailCell) ∷ []) → ⊥
+    by (here c) = let k = ap steps ((reason circular deep c) .0) in let y : ⊥ = omega arith in y
+    by (before (here c)) = reason circular deep c
+    by (before (before a)) = elim a [ ]

@@ -1,0 +1,67 @@
+-- DEMAND 3, the statement. The customer: "There is no text, node point or batch in view that a plan loses. For every square sheet with true boxes, and
+-- whatever root, depth, whole-number view, hidden layers and zoom up to 2^64 a reader brings, an accepted plan lists no path twice, and every path to an item
+-- in view on a shown layer is listed, or lies within the box of a proxy that is listed or was dropped because 100,000 were listed already, or lies in something
+-- skipped as under one pixel both ways, or follows the member at which a grid of bare node points met a limit."
+-- Definitions only; proved in proofs/Demand3.antt. Assumes nothing.
+use mathlib.Core.Path.{_≡_}
+use mathlib.Core.Bool.{false}
+use mathlib.Core.List.{List, _++_}
+use Prim.Native.Nat.{ℕ, _≤_}
+use lib.Dec.{T as Yes}
+use lib.IntN.{pos}
+use lib.Ieee.{fin, le}
+use lib.ListN.{length, drop}
+use Rattle.layout.specs.Sheet.{Sheet, sheetOf}
+use Rattle.exact.specs.Screen.{zoomPower, ZoomWithin}
+use Rattle.rules.specs.Event.{Event, nodeGridLimit}
+use Rattle.rules.specs.World.{Query}
+use Rattle.rules.specs.Tape.{tape}
+use Rattle.rules.specs.Outcome.{Outcome, outcomeOf}
+use Rattle.cover.specs.Path.{Path, Item, LeadsTo}
+use Rattle.cover.specs.Square.{Square, FewMembers}
+use Rattle.cover.specs.TrueBoxes.{TrueBoxes}
+use Rattle.cover.specs.View.{WholeView, InView, Shown}
+use Rattle.cover.specs.Trace.{Trace, events, All, IsRecord}
+use Rattle.cover.specs.Covered.{NoPathTwice, DroppedWhenFull, Covered, ListsItsPath, IsSkip, Skipped, MeetsLimit}
+
+-- ---- a plan that loses nothing, by its events
+
+pub record LosesNothing (S : Sheet) (q : Query) (trace : Trace) : Type 0 where
+  -- "every path to an item in view on a shown layer is listed, or lies within the box of a proxy .., or lies in something skipped .., or follows .."
+  pub covered : (p : Path) (h : Item) → LeadsTo S (q .root) p h → InView (q .view) h → Shown (q .hidden) h → Covered S q p h trace
+  -- "every record of kinds 11 to 13 lists one path"
+  pub listed : All (λ (x : Path × Event). IsRecord (x .1) → ListsItsPath S q (x .0) (x .1)) trace
+  -- "lists no path twice"
+  pub once : NoPathTwice trace
+  -- "dropped because 100,000 were listed already"
+  pub dropped : DroppedWhenFull trace
+  -- "skipped as under one pixel both ways"
+  pub skipped : All (λ (x : Path × Event). IsSkip (x .1) → Skipped S q (x .0) (x .1)) trace
+  -- "the member at which a grid of bare node points met a limit"
+  pub limits : All (λ (x : Path × Event). x .1 ≡ nodeGridLimit → MeetsLimit S q (x .0)) trace
+
+-- ---- of the rules
+
+-- what a reader brings: any root, hidden layers and object limit, and
+pub record Brought (q : Query) : Type 0 where
+  pub view : WholeView (q .view)
+  -- above 0, by question 9, and "up to 2^64"
+  pub zoom : ZoomWithin (q .zoom)
+  -- question 10 lets a plan ask for at most 32
+  pub depth : q .depth ≤ 48
+
+-- whatever stands in the lent marks and counts
+abbrev pub Demand3OfRules : Type 0
+Demand3OfRules = (S : Sheet) → Square S → TrueBoxes S → FewMembers S → (q : Query) → Brought q → (cells : ℕ) (marks counts : List ℕ) → LosesNothing S q (events S cells q marks counts)
+
+-- ---- of a call
+
+-- the output is the records of these events, totals last, and then what was lent
+pub record IsTape (o : Outcome) (trace : Trace) (lent : List ℕ) : Type 0 where
+  pub tapeLength : o .tapeLength ≡ length (tape trace)
+  pub out : o .out ≡ tape trace ++ drop (length (tape trace)) lent
+
+-- "an accepted plan": the refusal's number is 0. Questions 4, 9 and 10 give what is asked of columns and rows, of zoom above 0 and of the depth.
+abbrev pub Demand3 : Type 0
+Demand3 = (sheet : List ℕ) (q : Query) (out counts marks : List ℕ) → Square (sheetOf sheet) → TrueBoxes (sheetOf sheet) → WholeView (q .view) → Yes (le (q .zoom) (fin false 1 (pos zoomPower)))
+    → let o = outcomeOf sheet q out counts marks in o .number ≡ 0 → (trace : Trace) × IsTape o trace out × LosesNothing (sheetOf sheet) q trace

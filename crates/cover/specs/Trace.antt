@@ -1,0 +1,58 @@
+-- WHAT HAPPENED in a plan: every event of the rules, with the path at which it happened, the newest first.
+-- "Demand 3 reads the plan that demand 2 defines": these are the events of the same rules, run with the path as the tag; their records are the tape.
+-- Definitions only; rests on the rules. Assumes nothing.
+use mathlib.Core.List.{List, [], _∷_, _++_}
+use Prim.Native.Nat.{ℕ, _+_}
+use Rattle.geometry.specs.declared.placement.DVec2.{DVec2}
+use Rattle.geometry.specs.declared.placement.Placement.{Placement}
+use Rattle.layout.specs.Sheet.{Sheet}
+use Rattle.rules.specs.Event.{Event, batch, text, point, Step, emptyPlan, amounts}
+use Rattle.rules.specs.World.{Query, world}
+use Rattle.rules.specs.Plan.{plan}
+use Rattle.rules.specs.Tape.{note}
+use Rattle.cover.specs.Path.{Path}
+
+abbrev pub Trace : Type 0
+Trace = List (Path × Event)
+
+-- ---- the events of a plan
+
+-- A visit's tag is the way from the root, the newest step first.
+abbrev pub enter : Step → List Step → List Step
+enter s way = s ∷ way
+
+-- the path that goes this way
+abbrev pub pathOf : List Step → Path
+pathOf [] = []
+pathOf (s ∷ way) = pathOf way ++ s ∷ []
+
+abbrev pub withPaths : List (List Step × Event) → Trace
+withPaths [] = []
+withPaths (x ∷ l) = (pathOf (x .0), x .1) ∷ withPaths l
+
+-- the events of the plan of a sheet with so many cells, whatever stands in the lent marks and counts
+abbrev pub events : Sheet → ℕ → Query → List ℕ → List ℕ → Trace
+events S cells q marks counts = withPaths ((plan enter note S cells q [] (world emptyPlan [] marks counts)) .out)
+
+-- ---- every event, some event
+
+pub data All {A : Type 0} (Q : A → Type 0) : List A → Type 0 where
+  none-left : All Q []
+  and-then : {a : A} {l : List A} → Q a → All Q l → All Q (a ∷ l)
+
+pub data Any {A : Type 0} (Q : A → Type 0) : List A → Type 0 where
+  here : {a : A} {l : List A} → Q a → Any Q (a ∷ l)
+  before : {a : A} {l : List A} → Any Q l → Any Q (a ∷ l)
+
+-- ---- what is counted of them
+
+-- "every record of kinds 11 to 13"
+pub data IsRecord : Event → Type 0 where
+  batch-record : {n : ℕ} {p : Placement} → IsRecord (batch n p)
+  text-record : {n : ℕ} {v : DVec2} → IsRecord (text n v)
+  point-record : {layer type : ℕ} {v : DVec2} → IsRecord (point layer type v)
+
+-- how many proxies are listed
+abbrev pub listedProxies : {P : Type 0} → List (P × Event) → ℕ
+listedProxies [] = 0
+listedProxies (x ∷ l) = amounts (x .1) .«load_proxies» + listedProxies l
