@@ -2,7 +2,8 @@
 --     load left out at a limit · proxy with the wrong box · culling by the wrong edge · skipping on one side only · a member skipped at a circle · a path listed twice · a proxy dropped too early
 -- Beside each stands the trace that the rules leave. Assumes nothing.
 use mathlib.Core.Path.{_≡_, refl, ap, subst}
-use mathlib.Core.Bool.{false}
+use mathlib.Core.Logic.{_⊎_, inl, inr}
+use mathlib.Core.Bool.{Bool, false}
 use mathlib.Core.List.{[], _∷_}
 use Prim.Native.Nat.{ℕ, _+_, _≤_, _<_}
 use native.Mathlib.Omega.{arith}
@@ -27,6 +28,7 @@ use Rattle.rules.proofs.Cases.Samples.{whole, spot, page, sheetOfLists, batchOf
 use Rattle.cover.specs.Path.{Path, Item, aBatch, aText, memberAt, to-batch, to-text, to-reference, through-member, at-batch, at-text, step, LeadsTo}
 use Rattle.cover.specs.View.{textPosition, WithinBox, InView}
 use Rattle.cover.specs.Trace.{Trace, events, All, and-then, Any, here, before, text-record}
+use Rattle.geometry.specs.Bbox.{sourceIsDegenerate}
 use Rattle.geometry.specs.Screen.{screenSize}
 use Rattle.cover.specs.Covered.{UnderOnePixel, Lists, lists-batch, lists-text, lists-point, IsSkip, batch-skip, Skipped, skipped-member, skipped-batch, Covers, listed, within-proxy, within-dropped-proxy, in-skipped, follows}
 use Rattle.cover.specs.Demand3.{LosesNothing}
@@ -176,46 +178,21 @@ tall : (b : WorldBBox) → b ≡ page 1 100 → UnderOnePixel (screenSize b (hal
 unfolding opened isUnderOnePixel
 tall b e u = subst (λ (b : WorldBBox). UnderOnePixel (screenSize b (half .zoom))) e u
 
-box-of : Event → WorldBBox
-box-of (skippedBatch b) = b
-box-of (batch n p) = page 0 0
-box-of (text n v) = page 0 0
-box-of (point l k v) = page 0 0
-box-of (proxy l b) = b
-box-of (droppedProxy l b) = b
-box-of (skippedMember g b) = b
-box-of culledReference = page 0 0
-box-of culledBatch = page 0 0
-box-of nodeGridLimit = page 0 0
-box-of detailCell = page 0 0
-box-of (totals s) = page 0 0
+-- what is said to be skipped is measured so, if it is a batch
+measured : (p : Path) (e : Event) → Skipped striped half p e → ((b : WorldBBox) × (e ≡ skippedBatch b) × UnderOnePixel (screenSize b (half .zoom))) ⊎ ((g : Bool) × (b : WorldBBox) × (e ≡ skippedMember g b))
+measured p e (skipped-member {box = b} sb r f eb c< r< i u) = inr (sourceIsDegenerate sb, b, refl)
+measured p e (skipped-batch {box = b} r f i u) = inl (b, refl, u)
 
--- which events skip a batch
-skips : Event → ℕ
-skips (skippedBatch b) = 1
-skips (batch n p) = 0
-skips (text n v) = 0
-skips (point l k v) = 0
-skips (proxy l b) = 0
-skips (droppedProxy l b) = 0
-skips (skippedMember g b) = 0
-skips culledReference = 0
-skips culledBatch = 0
-skips nodeGridLimit = 0
-skips detailCell = 0
-skips (totals s) = 0
-
-not-skipped : (p : Path) (e : Event) → Skipped striped half p e → e ≡ skippedBatch (page 1 100) → ⊥
-unfolding box-of skips
-not-skipped p e (skipped-member b r f eb c< r< i u) z = absurd (let y : _≡_ {A = ℕ} 0 1 = ap skips z in let w : ⊥ = omega arith in w)
-not-skipped p e (skipped-batch {box = b} r f i u) z = tall b (ap box-of z) u
+not-skipped : ((b : WorldBBox) × (skippedBatch (page 1 100) ≡ skippedBatch b) × UnderOnePixel (screenSize b (half .zoom))) ⊎ ((g : Bool) × (b : WorldBBox) × (skippedBatch (page 1 100) ≡ skippedMember g b)) → ⊥
+not-skipped (inl k) = let e = k .1 in let z : k .0 ≡ page 1 100 = cc in tall (k .0) z (k .2)
+not-skipped (inr k) = absurd (let e = k .2 in let y : _≡_ {A = ℕ} 0 1 = cc in let w : ⊥ = omega arith in w)
 
 -- skipped for its width alone
 skipped-on-one-side : LosesNothing striped half ((batchAt 0 ∷ [], skippedBatch (page 1 100)) ∷ ([], detailCell) ∷ []) → ⊥
 skipped-on-one-side l = by (l .skipped)
   where
     by : All (λ (x : Path × Event). IsSkip (x .1) → Skipped striped half (x .0) (x .1)) ((batchAt 0 ∷ [], skippedBatch (page 1 100)) ∷ ([], detailCell) ∷ []) → ⊥
-    by (and-then f k) = not-skipped (batchAt 0 ∷ []) (skippedBatch (page 1 100)) (f batch-skip) refl
+    by (and-then f k) = not-skipped (measured (batchAt 0 ∷ []) (skippedBatch (page 1 100)) (f batch-skip))
 
 -- culled though it crosses the view's lower left corner
 wrong-edge : LosesNothing striped half ((batchAt 0 ∷ [], culledBatch) ∷ ([], detailCell) ∷ []) → ⊥

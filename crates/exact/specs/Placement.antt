@@ -95,7 +95,7 @@ abbrev pub vectorOf : DVec2 → Vector
 vectorOf v = record { x = integerOf (v .x); y = integerOf (v .y) }
 
 -- ---- levels: how many members stand between the root and a placement
--- Each member moves by at most 2 ^ 47, so a placement of level n stays within n of these. A reference's box lies within 2 ^ 48, so at 48 levels
+-- Each member moves by at most 2 ^ 47, so a placement of level n stays within n of these. A reference's box lies within 2 ^ 48, so at 49 levels
 -- everything placed stays below 2 ^ 53.
 abbrev pub memberReach : ℕ
 memberReach = 2 ^ 47

@@ -19,9 +19,9 @@ use Rattle.exact.specs.Box.{IntegerBox, Inside, boxOf, place}
 use Rattle.exact.proofs.Placements.Levels.{identity-level}
 use Rattle.exact.proofs.Placements.Moving.{identity-exact}
 use Rattle.rules.specs.Event.{Step, batchAt, textAt, nodeAt, referenceAt, member}
-use Rattle.rules.specs.World.{Query, World, go}
-use Rattle.rules.specs.Push.{say}
-use Rattle.rules.specs.Visit.{transformBounds, VisitSource, visitFoundCell, visitSourceWith, visitFoundReference, visitReference, visitCell}
+use Rattle.rules.specs.World.{Query, World, go, ending}
+use Rattle.rules.specs.Push.{say, addLoadIfBoxed}
+use Rattle.rules.specs.Visit.{transformBounds, VisitSource, cellBody, visitFoundCell, visitSourceWith, visitFoundReference, visitReference, visitCell}
 use Rattle.rules.specs.Plan.{loadRootBox, loadRoot, visitRoot, plan}
 use Rattle.rules.specs.Tape.{note}
 use Rattle.rules.proofs.Invariant.{member-kept, column-kept}
@@ -60,27 +60,30 @@ module _ (S : Sheet) (cells : ℕ) (q : Query) (whole : WholeView (q .view)) (fe
     same-box : (c′ : CellRecord) → S .cell n ≡ some c′ → c′ .bbox ≡ boxed b
     same-box c′ e = let s : c′ ≡ c = cc in ap (λ (z : CellRecord). z .bbox) s ∙ eb
 
-    from-cell : (k : Step) (u : PreparedSource) (U : ExactPlacement) (g : Path) → StepLeads S (Cell n) T k u U → Leads S u U g h → (w : World Tagged) → Claimed (back t (k ∷ g)) h (visitFoundCell enter note S cells q (visits S cells q d) t n p (S .cell n) w)
-    from-cell k u U g (to-batch {i = j} {c = c′} f j<) leads w =
-        let G = back t (batchAt j ∷ g) in
-        cell-visit-claims S cells q whole sq d l (omega arith) t n c′ f p T i level b (same-box c′ f) G h v inside
-        (in-geometries S cells q d t n c′ f p (transformBounds p (c′ .bbox)) G h (full-cell S cells q whole sq d l (omega arith) t n c′ f p T i level b (same-box c′ f) G h v inside) j j<
-        (geometry-push-claims S cells q whole sq l (omega arith) p T i level (batchAt j ∷ t) (c′ .geometries .at j) g h leads v shown)) w
-    from-cell k u U g (to-text {i = j} {c = c′} f j<) leads w =
-        let G = back t (textAt j ∷ g) in
-        cell-visit-claims S cells q whole sq d l (omega arith) t n c′ f p T i level b (same-box c′ f) G h v inside
-        (in-texts S cells q d t n c′ f p (transformBounds p (c′ .bbox)) G h (full-cell S cells q whole sq d l (omega arith) t n c′ f p T i level b (same-box c′ f) G h v inside) j j<
-        (text-push-claims S cells q whole sq l (omega arith) p T i level (textAt j ∷ t) (c′ .texts .at j) g h leads v shown)) w
-    from-cell k u U g (to-node {i = j} {c = c′} f j<) leads w =
-        let G = back t (nodeAt j ∷ g) in
-        cell-visit-claims S cells q whole sq d l (omega arith) t n c′ f p T i level b (same-box c′ f) G h v inside
-        (in-nodes S cells q d t n c′ f p (transformBounds p (c′ .bbox)) G h (full-cell S cells q whole sq d l (omega arith) t n c′ f p T i level b (same-box c′ f) G h v inside) j j<
-        (node-push-claims S cells q whole sq l (omega arith) p T i level (nodeAt j ∷ t) (c′ .nodes .at j) g h leads v shown)) w
-    from-cell k u U g (to-reference {i = j} {c = c′} f j<) leads w =
-        let G = back t (referenceAt j ∷ g) in
-        cell-visit-claims S cells q whole sq d l (omega arith) t n c′ f p T i level b (same-box c′ f) G h v inside
-        (in-references S cells q d t n c′ f p (transformBounds p (c′ .bbox)) G h (full-cell S cells q whole sq d l (omega arith) t n c′ f p T i level b (same-box c′ f) G h v inside) j j<
-        (refs (referenceAt j ∷ t) (c′ .references .at j) p T i level g h leads v shown)) w
+    abbrev Visited : Path → World Tagged → Type 0
+    Visited G w = Claimed G h (visitFoundCell enter note S cells q (visits S cells q d) t n p (S .cell n) w)
+
+    -- the cell's loops claim a path, given that the cell's box does
+    in-cell : (c′ : CellRecord) → S .cell n ≡ some c′ → (G : Path)
+        → (((w : World Tagged) → Claimed G h (addLoadIfBoxed enter note t n (transformBounds p (c′ .bbox)) w)) → (w : World Tagged) → Claimed G h (ending (cellBody enter note S cells q t n c′ p (transformBounds p (c′ .bbox)) (visits S cells q d) w)))
+        → (w : World Tagged) → Visited G w
+    in-cell c′ e G loops =
+        let box = same-box c′ e in
+        cell-visit-claims S cells q whole sq d l (omega arith) t n c′ e p T i level b box G h v inside (loops (full-cell S cells q whole sq d l (omega arith) t n c′ e p T i level b box G h v inside))
+
+    from-cell : (k : Step) (u : PreparedSource) (U : ExactPlacement) (g : Path) → StepLeads S (Cell n) T k u U → Leads S u U g h → (w : World Tagged) → Visited (back t (k ∷ g)) w
+    from-cell k u U g (to-batch {i = j} {c = c′} e j<) leads =
+        in-cell c′ e (back t (batchAt j ∷ g)) (λ full. in-geometries S cells q d t n c′ e p (transformBounds p (c′ .bbox)) (back t (batchAt j ∷ g)) h full j j<
+        (geometry-push-claims S cells q whole sq l (omega arith) p T i level (batchAt j ∷ t) (c′ .geometries .at j) g h leads v shown))
+    from-cell k u U g (to-text {i = j} {c = c′} e j<) leads =
+        in-cell c′ e (back t (textAt j ∷ g)) (λ full. in-texts S cells q d t n c′ e p (transformBounds p (c′ .bbox)) (back t (textAt j ∷ g)) h full j j<
+        (text-push-claims S cells q whole sq l (omega arith) p T i level (textAt j ∷ t) (c′ .texts .at j) g h leads v shown))
+    from-cell k u U g (to-node {i = j} {c = c′} e j<) leads =
+        in-cell c′ e (back t (nodeAt j ∷ g)) (λ full. in-nodes S cells q d t n c′ e p (transformBounds p (c′ .bbox)) (back t (nodeAt j ∷ g)) h full j j<
+        (node-push-claims S cells q whole sq l (omega arith) p T i level (nodeAt j ∷ t) (c′ .nodes .at j) g h leads v shown))
+    from-cell k u U g (to-reference {i = j} {c = c′} e j<) leads =
+        in-cell c′ e (back t (referenceAt j ∷ g)) (λ full. in-references S cells q d t n c′ e p (transformBounds p (c′ .bbox)) (back t (referenceAt j ∷ g)) h full j j<
+        (refs (referenceAt j ∷ t) (c′ .references .at j) p T i level g h leads v shown))
 
   module _ (d l : ℕ) (l≤ : l ≤ 48) (refs : ReferenceClaims d l) where
     cell-claims : (t : List Step) (n : ℕ) (p : Placement) (T : ExactPlacement) → IsPlacement p T → AtLevel l T → (g : Path) (h : Item) → Leads S (Cell n) T g h → InView (q .view) h → Shown (q .hidden) h

@@ -14,7 +14,7 @@ use Rattle.records.specs.declared.PreparedGeometry.{PreparedGeometry}
 use Rattle.records.specs.declared.PreparedText.{PreparedText}
 use Rattle.records.specs.declared.PreparedReference.{PreparedReference}
 use Rattle.layout.specs.Sheet.{NodeRecord, CellRecord}
-use Rattle.exact.specs.Integer.{integer, _≐_}
+use Rattle.exact.specs.Integer.{integer, _≐_, _≼_}
 use Rattle.exact.specs.IsInteger.{IsInteger, integerOf}
 use Rattle.exact.specs.Placement.{vectorOf}
 use Rattle.exact.specs.Box.{IntegerBox, Holds, Inside, pointBox, boxOf}
@@ -98,41 +98,26 @@ pub record Ordered (a b c d : ℕ) : Type 0 where
   pub right : c ≤ 2 ^ 31
   pub top : d ≤ 2 ^ 31
 
+-- the order of whole numbers is that of their floats
+whole-order : (a b : ℕ) → a ≤ b → b ≤ 2 ^ 31 → integerOf (whole a) ≼ integerOf (whole b)
+whole-order a b h k = let p = whole-same a (omega arith) in let q = whole-same b k in omega arith
+
 pub square-box : (a b c d : ℕ) → Ordered a b c d → SquareBox (box a b c d)
-square-box a b c d h =
-    let hx = h .x in
-    let hy = h .y in
-    let hr = h .right in
-    let ht = h .top in
-    let ea = whole-same a (omega arith) in
-    let eb = whole-same b (omega arith) in
-    let ec = whole-same c (omega arith) in
-    let ed = whole-same d (omega arith) in
-    record {
-      «min_x» = square-whole a (omega arith);
-      «min_y» = square-whole b (omega arith);
-      «max_x» = square-whole c (omega arith);
-      «max_y» = square-whole d (omega arith);
-      proper = record { x = omega arith; y = omega arith };
-    }
+square-box a b c d h = record {
+  «min_x» = square-whole a (omega (arith, h .x, h .right));
+  «min_y» = square-whole b (omega (arith, h .y, h .top));
+  «max_x» = square-whole c (h .right);
+  «max_y» = square-whole d (h .top);
+  proper = record { x = whole-order a c (h .x) (h .right); y = whole-order b d (h .y) (h .top) };
+}
 
 pub box-inside : (a b c d a′ b′ c′ d′ : ℕ) → Ordered a b c d → Ordered a′ b′ c′ d′ → a′ ≤ a → b′ ≤ b → c ≤ c′ → d ≤ d′ → Inside (boxOf (box a b c d)) (boxOf (box a′ b′ c′ d′))
-box-inside a b c d a′ b′ c′ d′ h k l o r t =
-    let hx = h .x in
-    let hy = h .y in
-    let hr = h .right in
-    let ht = h .top in
-    let kr = k .right in
-    let kt = k .top in
-    let ea = whole-same a (omega arith) in
-    let eb = whole-same b (omega arith) in
-    let ec = whole-same c (omega arith) in
-    let ed = whole-same d (omega arith) in
-    let fa = whole-same a′ (omega arith) in
-    let fb = whole-same b′ (omega arith) in
-    let fc = whole-same c′ (omega arith) in
-    let fd = whole-same d′ (omega arith) in
-    record { left = omega arith; right = omega arith; bottom = omega arith; top = omega arith }
+box-inside a b c d a′ b′ c′ d′ h k l o r t = record {
+  left = whole-order a′ a l (omega (arith, h .x, h .right));
+  right = whole-order c c′ r (k .right);
+  bottom = whole-order b′ b o (omega (arith, h .y, h .top));
+  top = whole-order d d′ t (k .top);
+}
 
 pub box-holds : (a b c d x y : ℕ) → Ordered a b c d → a ≤ x → b ≤ y → x ≤ c → y ≤ d → Holds (boxOf (box a b c d)) (vectorOf (spot x y))
 box-holds a b c d x y k l o r t =

@@ -1,0 +1,3 @@
+pub mod Totals
+pub mod Hidden
+pub mod Start

@@ -1,0 +1,15 @@
+-- `pushes::list_totals` meets its contract: its record is put on the tape, and its totals grow.
+-- Assumes nothing.
+use Rattle.rules.specs.Event.{after, _⊞_}
+use Rattle.rules.specs.Push.{say}
+use Rattle.rules.specs.Tape.{onTape}
+use borrow.Author.Needs.{needs}
+use Rattle.pushes.proofs.events.list_totals.Statement.{statement}
+use Rattle.pushes.proofs.events.list_totals.Tie as tie
+
+returns : tie.Need-returns
+unfolding say after _⊞_ onTape
+returns c = λ m k. simp (c .saturating-add .ensures, c .before .before .before .write-totals .ensures)
+
+pub list-totals-spec : {M : Type 1} → statement M
+list-totals-spec = tie.close (tie.spec (λ c κs. search needs) (λ c κs. search needs) (λ c. search needs) returns)

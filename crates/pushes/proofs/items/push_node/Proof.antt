@@ -1,0 +1,50 @@
+-- `pushes::push_node` meets its contract: one law of the rules for each way out.
+-- Assumes nothing.
+use mathlib.Core.Path.{_≡_, refl, sym, ap, _∙_}
+use denote.Ref.{now}
+use Rattle.records.specs.declared.PreparedNode.{PreparedNode}
+use Rattle.layout.specs.Sheet.{nodeRecordAt, nodes}
+use Rattle.layout.specs.Lookup.{item-read}
+use Rattle.rules.specs.World.{queryOf, hides}
+use Rattle.rules.specs.Tape.{noTag, onTape}
+use Rattle.rules.proofs.Paths.Pushes.{node-missing, node-hidden, node-shown}
+use borrow.Author.Needs.{needs}
+use Rattle.pushes.proofs.items.push_node.Statement.{statement}
+use Rattle.pushes.proofs.items.push_node.Tie as tie
+
+missing : tie.Need-returns
+missing c =
+    let at-find = c .before .before in
+    λ m k. sym (node-missing noTag onTape _ _ tt _ _ _ (item-read nodes _ _ (sym (at-find .find .ensures) ∙ c .enum-told .given .1)))
+
+hidden : tie.Need-returns-2
+unfolding nodeRecordAt
+hidden c =
+    let at-is-hidden = c .before in
+    let at-node-at = at-is-hidden .before in
+    let at-at = at-node-at .before .before in
+    let at-find = at-at .before .before in
+    let start = at-find .before .before .before .before in
+    let a = start .args in
+    let there = item-read nodes _ _ (sym (at-find .find .ensures) ∙ at-at .at .given .1) in
+    λ m k. sym (node-hidden noTag onTape _ _ tt _ _ _ _ there (sym (ap (λ (x : PreparedNode). hides (queryOf (a .query) (now (a .hidden)) (a .object-limit)) (x .layer) (x .«node_type»)) (at-node-at .node-at .ensures)) ∙ sym (at-is-hidden .is-hidden .ensures (a .query) (a .object-limit)) ∙ c .if1 .taken))
+
+shown : tie.Need-returns-3
+unfolding nodeRecordAt
+shown c =
+    let at-push-points = c .before .before in
+    let at-if1 = at-push-points .before .before in
+    let at-is-hidden = at-if1 .before in
+    let at-node-at = at-is-hidden .before in
+    let at-at = at-node-at .before .before in
+    let at-find = at-at .before .before in
+    let start = at-find .before .before .before .before in
+    let a = start .args in
+    let there = item-read nodes _ _ (sym (at-find .find .ensures) ∙ at-at .at .given .1) in
+    λ m k. at-push-points .push-points .ensures (now (a .hidden)) m k ∙ sym (node-shown noTag onTape _ _ tt _ _ _ _ there (sym (ap (λ (x : PreparedNode). hides (queryOf (a .query) (now (a .hidden)) (a .object-limit)) (x .layer) (x .«node_type»)) (at-node-at .node-at .ensures)) ∙ sym (at-is-hidden .is-hidden .ensures (a .query) (a .object-limit)) ∙ at-if1 .if1 .left))
+
+pub push-node-spec : {M : Type 1} → statement M
+push-node-spec =
+    tie.close
+    (tie.spec (λ c κs. search needs) (λ c. search needs) (λ c. search needs) missing (λ c κs. search needs) (λ c κs. search needs)
+    hidden (λ c κs. search needs) (λ c. search needs) shown)

@@ -1,0 +1,20 @@
+-- `pushes::add_load` meets its contract: a proxy is listed, or dropped.
+-- Assumes nothing.
+use mathlib.Core.Path.{_≡_, refl, sym, ap, _∙_}
+use Rattle.rules.specs.Event.{after, _⊞_}
+use Rattle.rules.specs.Push.{say}
+use Rattle.rules.specs.Tape.{putRecord, noTag, onTape}
+use Rattle.rules.proofs.Paths.Pushes.{load-listed, load-dropped}
+use borrow.Author.Needs.{needs}
+use Rattle.pushes.proofs.load.add_load.Statement.{statement}
+use Rattle.pushes.proofs.load.add_load.Tie as tie
+
+listed : tie.Need-returns
+listed c = λ m k. c .before .before .list-proxy .ensures m k ∙ sym (load-listed noTag onTape tt _ _ _ (c .before .before .before .before .if1 .taken))
+
+dropped : tie.Need-returns-2
+unfolding say after _⊞_ onTape putRecord
+dropped c = λ m k. sym (load-dropped noTag onTape tt _ _ _ (c .if1 .left))
+
+pub add-load-spec : {M : Type 1} → statement M
+add-load-spec = tie.close (tie.spec (λ c κs. search needs) (λ c. search needs) listed dropped)

@@ -1,0 +1,36 @@
+-- `pushes::add_load_if_boxed` meets its contract: a box is added, and nothing where there is none.
+-- Assumes nothing.
+use mathlib.Core.Path.{_≡_, refl, sym, ap, _∙_}
+use denote.Ref.{now}
+use Rattle.geometry.specs.declared.bbox.WorldBBox.{WorldBBox}
+use Rattle.geometry.specs.declared.bbox.Bounds.{Bounds}
+use Rattle.rules.specs.World.{world}
+use Rattle.rules.specs.Push.{addLoad, addLoadIfBoxed}
+use Rattle.rules.specs.Tape.{noTag, onTape}
+use borrow.Author.Needs.{needs}
+use Rattle.pushes.proofs.load.add_load_if_boxed.Statement.{statement}
+use Rattle.pushes.proofs.load.add_load_if_boxed.Tie as tie
+
+absent : tie.Need-returns
+absent c =
+    let start = c .before .before .before in
+    let a = start .args in
+    λ m k. sym (ap (λ (x : Bounds). addLoadIfBoxed noTag onTape tt (a .label) x (world (a .plan) (now (a .out)) m k)) (c .enum-told .given .1))
+
+boxed : tie.Need-returns-2
+boxed c =
+    let at-add-load = c .before .before in
+    let at-new = at-add-load .before in
+    let at-bounds = at-new .before .before .before in
+    let start = at-bounds .before .before .before in
+    let a = start .args in
+    λ m k.
+    at-add-load .add-load .ensures m k
+    ∙ ap (λ (b : WorldBBox). addLoad noTag onTape tt (a .label) b (world (a .plan) (now (a .out)) m k)) (at-new .new .ensures)
+    ∙ sym (ap (λ (x : Bounds). addLoadIfBoxed noTag onTape tt (a .label) x (world (a .plan) (now (a .out)) m k)) (at-bounds .bounds .given .1))
+
+pub add-load-if-boxed-spec : {M : Type 1} → statement M
+add-load-if-boxed-spec =
+    tie.close
+    (tie.spec (λ c. search needs) (λ c. search needs) absent (λ c κs. search needs) (λ c κs. search needs) (λ c. search needs)
+    boxed)

@@ -1,0 +1,128 @@
+// One function for each event that a plan counts: what it adds to the totals, and the record it puts on the tape if there is one.
+// The record is written if it fits; the tape's end grows in any case, which is how refusal 12 is seen.
+use geometry::bbox::WorldBBox;
+use geometry::placement::DVec2;
+use geometry::placement::Placement;
+use rules::ScenePlan;
+ghost use mathlib.Core.Path.{_≡_};
+ghost use mathlib.Core.Bool.{Bool};
+ghost use mathlib.Core.List.{List};
+ghost use Prim.Native.Nat.{ℕ};
+ghost use Rattle.geometry.specs.declared.bbox.WorldBBox.{WorldBBox};
+ghost use Rattle.rules.specs.Event.{_⊞_, batch, text, point, proxy, skippedMember, skippedBatch, culledReference, culledBatch, detailCell, totals};
+ghost use Rattle.rules.specs.World.{world};
+ghost use Rattle.rules.specs.Push.{say};
+ghost use Rattle.rules.specs.Tape.{noTag, onTape};
+
+// Totals stop at 2^64 - 1.
+fn saturating_add(a: u64, b: u64) -> u64
+    ensures { λ r. ⌜ r ≡ a ⊞ b ⌝ }
+{
+    if a <= 0xffff_ffff_ffff_ffff - b {
+        return a + b;
+    }
+    0xffff_ffff_ffff_ffff
+}
+
+// ---- listed
+
+pub fn list_batch(out: &mut [u8], plan: ScenePlan, number: u32, placement: Placement) -> ScenePlan
+    ensures { λ r. ⌜ ((m k : List ℕ) → world r (now (out .exit)) m k ≡ say noTag onTape tt (batch number placement) (world plan (now (out .entry)) m k)) ⌝ }
+{
+    tape::write_batch(out, plan.tape_end, number, placement);
+    let mut next = plan;
+    next.tape_end = saturating_add(plan.tape_end, 58);
+    next.detail_objects = saturating_add(plan.detail_objects, 1);
+    next
+}
+
+pub fn list_text(out: &mut [u8], plan: ScenePlan, number: u32, position: DVec2) -> ScenePlan
+    ensures { λ r. ⌜ ((m k : List ℕ) → world r (now (out .exit)) m k ≡ say noTag onTape tt (text number position) (world plan (now (out .entry)) m k)) ⌝ }
+{
+    tape::write_text(out, plan.tape_end, number, position);
+    let mut next = plan;
+    next.tape_end = saturating_add(plan.tape_end, 26);
+    next.texts = saturating_add(plan.texts, 1);
+    next.detail_objects = saturating_add(plan.detail_objects, 1);
+    next
+}
+
+pub fn list_point(
+    out: &mut [u8],
+    plan: ScenePlan,
+    layer: u32,
+    node_type: u32,
+    position: DVec2,
+) -> ScenePlan
+    ensures { λ r. ⌜ ((m k : List ℕ) → world r (now (out .exit)) m k ≡ say noTag onTape tt (point layer «node_type» position) (world plan (now (out .entry)) m k)) ⌝ }
+{
+    tape::write_point(out, plan.tape_end, layer, node_type, position);
+    let mut next = plan;
+    next.tape_end = saturating_add(plan.tape_end, 26);
+    next.detail_objects = saturating_add(plan.detail_objects, 1);
+    next
+}
+
+pub fn list_proxy(out: &mut [u8], plan: ScenePlan, label: u32, bbox: WorldBBox) -> ScenePlan
+    ensures { λ r. ⌜ ((m k : List ℕ) → world r (now (out .exit)) m k ≡ say noTag onTape tt (proxy label bbox) (world plan (now (out .entry)) m k)) ⌝ }
+{
+    tape::write_proxy(out, plan.tape_end, label, bbox);
+    let mut next = plan;
+    next.tape_end = saturating_add(plan.tape_end, 42);
+    next.load_proxies = saturating_add(plan.load_proxies, 1);
+    next
+}
+
+pub fn list_totals(out: &mut [u8], plan: ScenePlan) -> ScenePlan
+    ensures { λ r. ⌜ ((m k : List ℕ) → world r (now (out .exit)) m k ≡ say noTag onTape tt (totals plan) (world plan (now (out .entry)) m k)) ⌝ }
+{
+    tape::write_totals(out, plan.tape_end, plan);
+    let mut next = plan;
+    next.tape_end = saturating_add(plan.tape_end, 54);
+    next
+}
+
+// ---- counted only
+
+pub fn count_culled_reference(plan: ScenePlan) -> ScenePlan
+    ensures { λ r. ⌜ ((o m k : List ℕ) → world r o m k ≡ say noTag onTape tt culledReference (world plan o m k)) ⌝ }
+{
+    let mut next = plan;
+    next.culled_references = saturating_add(plan.culled_references, 1);
+    next
+}
+
+pub fn count_skipped_member(plan: ScenePlan) -> ScenePlan
+    ensures { λ r. ⌜ ((degenerate : Bool) (box : WorldBBox) (o m k : List ℕ) → world r o m k ≡ say noTag onTape tt (skippedMember degenerate box) (world plan o m k)) ⌝ }
+{
+    let mut next = plan;
+    next.skipped_subpixel_references = saturating_add(plan.skipped_subpixel_references, 1);
+    next
+}
+
+pub fn count_culled_batch(plan: ScenePlan) -> ScenePlan
+    ensures { λ r. ⌜ ((o m k : List ℕ) → world r o m k ≡ say noTag onTape tt culledBatch (world plan o m k)) ⌝ }
+{
+    let mut next = plan;
+    next.culled_geometry_batches = saturating_add(plan.culled_geometry_batches, 1);
+    next
+}
+
+pub fn count_skipped_batch(plan: ScenePlan) -> ScenePlan
+    ensures { λ r. ⌜ ((box : WorldBBox) (o m k : List ℕ) → world r o m k ≡ say noTag onTape tt (skippedBatch box) (world plan o m k)) ⌝ }
+{
+    let mut next = plan;
+    next.skipped_subpixel_geometry_batches = saturating_add(
+        plan.skipped_subpixel_geometry_batches,
+        1,
+    );
+    next
+}
+
+pub fn count_detail_cell(plan: ScenePlan) -> ScenePlan
+    ensures { λ r. ⌜ ((o m k : List ℕ) → world r o m k ≡ say noTag onTape tt detailCell (world plan o m k)) ⌝ }
+{
+    let mut next = plan;
+    next.detail_cells = saturating_add(plan.detail_cells, 1);
+    next
+}

@@ -1,0 +1,37 @@
+// What a plan lists, each item by the test and in the order of bevy_scene.rs: `add_load`, `push_geometry`, `push_text`, `push_node`,
+// and the loops of `visit_cell` over a cell's batches, texts and nodes.
+// Every function is total. What it leaves of the plan and of the output is what the rules' definition of the same name says.
+use rules::ScenePlan;
+
+mod limits; // the budget, and hidden layers
+mod events; // what an event adds to the plan, and its record on the tape
+mod load; // proxies
+mod items; // batches, texts and nodes by number
+mod lists; // the lists of a cell
+
+pub use events::count_culled_batch;
+pub use events::count_culled_reference;
+pub use events::count_detail_cell;
+pub use events::count_skipped_batch;
+pub use events::count_skipped_member;
+pub use events::list_batch;
+pub use events::list_point;
+pub use events::list_proxy;
+pub use events::list_text;
+pub use events::list_totals;
+pub use items::push_geometry;
+pub use items::push_node;
+pub use items::push_text;
+pub use limits::detail_budget_exhausted;
+pub use limits::is_hidden;
+pub use lists::push_geometries;
+pub use lists::push_nodes;
+pub use lists::push_texts;
+pub use load::add_load;
+pub use load::add_load_if_boxed;
+
+// A plan, and whether all was listed: `false` at an exhausted budget.
+pub struct Visited {
+    pub plan: ScenePlan,
+    pub whole: bool,
+}

@@ -1,0 +1,44 @@
+-- Products of 32-bit numbers fit 64 bits, and a quotient tells whether a product of 64-bit numbers does.
+-- Assumes nothing.
+use mathlib.Core.Path.{_≡_}
+use Prim.Native.Nat.{ℕ, _+_, _*_, _/_, _≤_, _<_}
+use native.Mathlib.Nat.{mul-le-mul-right, le-div-iff-mul-le, div-lt-iff-lt-mul, mul-comm, zero-mul}
+use native.Mathlib.Omega.{arith}
+use Rattle.rules.specs.Event.{saturate}
+
+-- ---- a place in a layer
+
+module _ (layer cells : ℕ) (below : layer ≤ 4294967296) (few : cells < 4294967296) where
+  pub layer-fits : layer * cells < 18446744073709551616
+  layer-fits = let h : layer * cells ≤ 4294967296 * cells = mul-le-mul-right cells below in omega arith
+
+module _ (layer cells cell : ℕ) (below : layer ≤ 4294967296) (few : cells < 4294967296) where
+  pub place-fits : cell < 4294967296 → layer * cells + cell < 18446744073709551616
+  place-fits h = let p : layer * cells ≤ 4294967296 * cells = mul-le-mul-right cells below in omega arith
+
+-- ---- a product that stops at 2^64 - 1
+
+pub product-none : (a b : ℕ) → a ≡ 0 → 0 ≡ saturate (a * b)
+unfolding saturate
+product-none a b e = rw (e, zero-mul)
+
+module _ (a b : ℕ) (some : a ≡ 0 → ⊥) where
+  pub product-fits : b ≤ 18446744073709551615 / a → a * b ≤ 18446744073709551615
+  product-fits h =
+      let p : b * a ≤ 18446744073709551615 = le-div-iff-mul-le {k = a} {x = b} (omega arith) .0 h in
+      let e : a * b ≡ b * a = mul-comm a b in
+      omega arith
+
+  product-more : 18446744073709551615 / a < b → 18446744073709551615 < a * b
+  product-more h =
+      let p : 18446744073709551615 < b * a = div-lt-iff-lt-mul {k = a} {x = 18446744073709551615} {y = b} (omega arith) .0 h in
+      let e : a * b ≡ b * a = mul-comm a b in
+      omega arith
+
+  pub product-below : b ≤ 18446744073709551615 / a → a * b ≡ saturate (a * b)
+  unfolding saturate
+  product-below h = let p = product-fits h in omega (arith, p)
+
+  pub product-stops : 18446744073709551615 / a < b → 18446744073709551615 ≡ saturate (a * b)
+  unfolding saturate
+  product-stops h = let p = product-more h in omega (arith, p)

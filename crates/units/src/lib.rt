@@ -1,0 +1,117 @@
+// Draw units over the lent counts and marks: `reference_draw_units`, `source_draw_units` and `cell_draw_units`, three functions in a cycle of calls.
+// Depth and call position fall: a reference asks its source one depth below, and a source asks a cell, which asks references, at its own depth.
+ghost use mathlib.Core.Path.{_≡_};
+ghost use Rattle.layout.specs.Sheet.{sheetOf};
+ghost use Rattle.rules.specs.DrawUnits.{counted, referenceDrawUnits, sourceDrawUnits, cellDrawUnits};
+use records::PreparedSource;
+use walk::Found;
+
+mod scratch; // the places of the lent counts and marks
+mod memory; // the sets and the map of the Rust's planner, which stand in those places
+mod totals; // sums and products that stop at 2^64 - 1
+
+pub use memory::CELL_STACK;
+pub use memory::COMPLEXITY_STACK;
+pub use memory::stack_contains;
+pub use memory::stack_insert;
+pub use memory::stack_remove;
+pub use scratch::count_at;
+pub use scratch::count_place;
+pub use scratch::is_marked;
+pub use scratch::mark_at;
+pub use scratch::place;
+pub use scratch::remembered_place;
+pub use scratch::set_count;
+pub use scratch::set_mark;
+pub use totals::saturating_add;
+pub use totals::saturating_mul;
+
+pub fn reference_draw_units(
+    sheet: &[u8],
+    cells: u32,
+    counts: &mut [u64],
+    marks: &mut [u8],
+    number: u32,
+    depth: u32,
+) -> u64
+    ensures { λ r. ⌜ counted r (now (marks .exit)) (now (counts .exit)) ≡ referenceDrawUnits (sheetOf (now (sheet .entry))) cells depth number (now (marks .entry)) (now (counts .entry)) ⌝ }
+{
+    let Found::At(at) = walk::find(sheet, 4, number) else {
+        return 0; // no sheet that passes question 7 names such a reference
+    };
+    let reference = records::reference_at(sheet, at);
+    let count = geometry::grid::grid_count(reference.grid);
+    if count == 0 {
+        return 0;
+    }
+    if depth <= 1 {
+        return totals::scaled(count, 1);
+    }
+    let source = reference.source;
+    let source_count = source_draw_units(sheet, cells, counts, marks, source, depth - 1);
+    totals::scaled(count, source_count)
+}
+
+pub fn source_draw_units(
+    sheet: &[u8],
+    cells: u32,
+    counts: &mut [u64],
+    marks: &mut [u8],
+    source: PreparedSource,
+    depth: u32,
+) -> u64
+    ensures { λ r. ⌜ counted r (now (marks .exit)) (now (counts .exit)) ≡ sourceDrawUnits (sheetOf (now (sheet .entry))) cells depth source (now (marks .entry)) (now (counts .entry)) ⌝ }
+{
+    match source {
+        PreparedSource::Cell(cell) => cell_draw_units(sheet, cells, counts, marks, cell, depth),
+        PreparedSource::Reference(number) => reference_draw_units(
+            sheet,
+            cells,
+            counts,
+            marks,
+            number,
+            depth,
+        ),
+        PreparedSource::Geometry(_) => 1,
+        PreparedSource::Text(_) => 1,
+        PreparedSource::Node(_) => 1,
+    }
+}
+
+pub fn cell_draw_units(
+    sheet: &[u8],
+    cells: u32,
+    counts: &mut [u64],
+    marks: &mut [u8],
+    cell: u32,
+    depth: u32,
+) -> u64
+    ensures { λ r. ⌜ counted r (now (marks .exit)) (now (counts .exit)) ≡ cellDrawUnits (sheetOf (now (sheet .entry))) cells depth cell (now (marks .entry)) (now (counts .entry)) ⌝ }
+{
+    let Found::At(at) = walk::find(sheet, 5, cell) else {
+        return 1; // the sheet lacks the cell
+    };
+    if depth == 0 {
+        return 1; // asked before the cache, which has no place for it
+    }
+    if memory::cache_contains(marks, cells, depth, cell) {
+        return memory::cache_get(counts, cells, depth, cell);
+    }
+    if stack_contains(marks, cells, COMPLEXITY_STACK, cell) {
+        return 1; // a circle of cells
+    }
+    stack_insert(marks, cells, COMPLEXITY_STACK, cell);
+    let record = records::cell_at(sheet, at);
+    let references = record.references;
+    let mut count = record.direct_draw_units;
+    let mut i: u32 = 0;
+    while i < references {
+        let reference = records::cell_reference_at(sheet, at, i);
+        let more = reference_draw_units(sheet, cells, counts, marks, reference, depth);
+        count = totals::saturating_add(count, more);
+        i += 1;
+    }
+    stack_remove(marks, cells, COMPLEXITY_STACK, cell);
+    memory::cache_insert(counts, marks, cells, depth, cell, count);
+    count
+}

@@ -1,0 +1,35 @@
+// Sums and products that stop at 2^64 - 1: the Rust's `saturating_add` and `saturating_mul` of u64.
+ghost use mathlib.Core.Path.{_≡_};
+ghost use Prim.Native.Nat.{_+_, _*_, max};
+ghost use Rattle.rules.specs.Event.{saturate};
+
+pub fn saturating_add(a: u64, b: u64) -> u64
+    ensures { λ r. ⌜ r ≡ saturate (a + b) ⌝ }
+{
+    if a <= 18446744073709551615 - b {
+        return a + b;
+    }
+    18446744073709551615
+}
+
+pub fn saturating_mul(a: u64, b: u64) -> u64
+    ensures { λ r. ⌜ r ≡ saturate (a * b) ⌝ }
+{
+    if a == 0 {
+        return 0;
+    }
+    if b <= 18446744073709551615 / a {
+        return a * b;
+    }
+    18446744073709551615
+}
+
+// The units of a grid of `count` members, each of at least one: `count.saturating_mul(source_count.max(1))`.
+pub fn scaled(count: u64, source_count: u64) -> u64
+    ensures { λ r. ⌜ r ≡ saturate (count * max «source_count» 1) ⌝ }
+{
+    if source_count == 0 {
+        return saturating_mul(count, 1);
+    }
+    saturating_mul(count, source_count)
+}
