@@ -1,0 +1,33 @@
+-- `visit_values::label` meets its contract. Assumes nothing.
+use mathlib.Core.Path.{_≡_, sym, ap, _∙_}
+use Rattle.records.specs.declared.PreparedSource.{PreparedSource}
+use Rattle.rules.specs.Visit.{label}
+use borrow.Author.Needs.{needs}
+use Rattle.visit_values.proofs.label.Statement.{statement}
+use Rattle.visit_values.proofs.label.Tie as tie
+
+cell : tie.Need-returns
+unfolding label
+cell c = ap label (sym (c .before .source .given .1))
+
+reference : tie.Need-returns-2
+unfolding label
+reference c = ap label (sym (c .enum-told .given .1))
+
+geometry : tie.Need-returns-3
+unfolding label
+geometry c = ap label (sym (c .enum-told2 .given .1))
+
+text : tie.Need-returns-4
+unfolding label
+text c = ap label (sym (c .enum-told3 .given .1))
+
+node : tie.Need-returns-5
+unfolding label
+node c = ap label (sym (c .enum-told4 .given .1))
+
+pub label-spec : {M : Type 1} → statement M
+label-spec =
+    tie.close
+    (tie.spec (λ c. search needs) (λ c. search needs) (λ c. search needs) (λ c. search needs) (λ c. search needs)
+    cell reference geometry text node)
