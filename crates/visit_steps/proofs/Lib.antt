@@ -1,0 +1,8 @@
+-- Laws that the proofs about this crate's code cite: a law for each way out.
+--     FoundCell          `visit_cell` of a cell that is there
+--     SourcedReference   `visit_reference` of a reference that is there
+--     MemberExits        one member, and where it stands in its grid
+-- Assumes nothing.
+pub mod FoundCell
+pub mod SourcedReference
+pub mod MemberExits

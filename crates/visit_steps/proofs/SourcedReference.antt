@@ -1,0 +1,72 @@
+-- `visit_reference` of a reference that is there, by code path up to its draw units, however its source is visited.
+-- Assumes nothing.
+use mathlib.Core.Path.{_≡_, sym, ap, _∙_}
+use mathlib.Core.Bool.{Bool, true, false, cond}
+use mathlib.Core.List.{List}
+use Prim.Native.Nat.{ℕ}
+use lib.Ieee.{Float}
+use Rattle.geometry.specs.declared.bbox.WorldBBox.{WorldBBox}
+use Rattle.geometry.specs.declared.bbox.Bounds.{Bounds}
+use Rattle.geometry.specs.declared.bbox.Bounds.the-variants.{Absent, Box}
+use Rattle.geometry.specs.declared.placement.Placement.{Placement}
+use Rattle.geometry.specs.Bbox.{bbox, transformBbox, overlaps}
+use Rattle.geometry.specs.Grid.{referenceBbox}
+use Rattle.records.specs.declared.PreparedReference.{PreparedReference}
+use Rattle.layout.specs.Sheet.{Sheet}
+use Rattle.rules.specs.declared.ScenePlan.{ScenePlan}
+use Rattle.rules.specs.Event.{culledReference}
+use Rattle.rules.specs.World.{Query, detailCellsFull, detailBudgetExhausted, World, world}
+use Rattle.rules.specs.DrawUnits.{referenceDrawUnits}
+use Rattle.rules.specs.Push.{say, addLoad}
+use Rattle.rules.specs.Visit.{label, VisitSource, visitCountedReference, visitBoxedReference, visitSourcedReference}
+use Rattle.rules.specs.Tape.{noTag, onTape}
+
+-- the answer of `over`: whatever would be left to do, the world stays
+pub is-over : (goes : Bool) (after before : ScenePlan) (left : World (List ℕ)) (o m k : List ℕ) → (after ≡ before) × (goes ≡ false) → cond goes left (world after o m k) ≡ world before o m k
+is-over goes after before left o m k e =
+    ap (λ (b : Bool). cond b left (world after o m k)) (e .1) ∙ ap (λ (s : ScenePlan). world s o m k) (e .0)
+
+module _ (S : Sheet) (cells : ℕ) (q : Query) (visit : VisitSource noTag onTape S cells q) (depth n : ℕ) (r : PreparedReference) (p : Placement) (w : World (List ℕ)) where
+  abbrev visited : World (List ℕ)
+  visited = visitSourcedReference noTag onTape S cells q visit depth tt n r p (r .«source_bbox») w
+
+  sourced : (o : Bounds) → r .«source_bbox» ≡ o → visitSourcedReference noTag onTape S cells q visit depth tt n r p o w ≡ visited
+  sourced o e = ap (λ (o : Bounds). visitSourcedReference noTag onTape S cells q visit depth tt n r p o w) (sym e)
+
+  pub reference-unboxed : r .«source_bbox» ≡ Absent → w ≡ visited
+  unfolding visitSourcedReference
+  reference-unboxed a = sourced Absent a
+
+  module _ (x₀ y₀ x₁ y₁ : Float) (has-box : r .«source_bbox» ≡ Box x₀ y₀ x₁ y₁) (sourceBox : WorldBBox) (made : sourceBox ≡ bbox x₀ y₀ x₁ y₁) where
+    boxed : (o : Bounds) → referenceBbox (r .grid) sourceBox ≡ o → visitBoxedReference noTag onTape S cells q visit depth tt n r p sourceBox o w ≡ visited
+    unfolding visitSourcedReference
+    boxed o a =
+        ap (λ (o : Bounds). visitBoxedReference noTag onTape S cells q visit depth tt n r p sourceBox o w) (sym a)
+        ∙ ap (λ (b : WorldBBox). visitBoxedReference noTag onTape S cells q visit depth tt n r p b (referenceBbox (r .grid) b) w) made
+        ∙ sourced (Box x₀ y₀ x₁ y₁) has-box
+
+    pub reference-empty : referenceBbox (r .grid) sourceBox ≡ Absent → w ≡ visited
+    unfolding visitBoxedReference
+    reference-empty a = boxed Absent a
+
+    module _ (x₂ y₂ x₃ y₃ : Float) (has-members : referenceBbox (r .grid) sourceBox ≡ Box x₂ y₂ x₃ y₃) (worldBox : WorldBBox) (placed : worldBox ≡ transformBbox p (bbox x₂ y₂ x₃ y₃)) where
+      pub reference-culled : overlaps worldBox (q .view) ≡ false → (v : World (List ℕ)) → v ≡ say noTag onTape tt culledReference w → v ≡ visited
+      unfolding visitBoxedReference
+      reference-culled a v counted = counted ∙ (rw (← placed, a)) ∙ boxed (Box x₂ y₂ x₃ y₃) has-members
+
+      module _ (seen : overlaps worldBox (q .view) ≡ true) where
+        -- a limit is met: v is the world with the reference's box added
+        module _ (v : World (List ℕ)) (added : v ≡ addLoad noTag onTape tt (label (r .source)) worldBox w) where
+          pub reference-detail-full : detailCellsFull (w .state) ≡ true → v ≡ visited
+          unfolding visitBoxedReference
+          reference-detail-full b = added ∙ (rw (← placed, seen, b)) ∙ boxed (Box x₂ y₂ x₃ y₃) has-members
+
+          pub reference-exhausted : detailCellsFull (w .state) ≡ false → detailBudgetExhausted q (w .state) ≡ true → v ≡ visited
+          unfolding visitBoxedReference
+          reference-exhausted b x = added ∙ (rw (← placed, seen, b, x)) ∙ boxed (Box x₂ y₂ x₃ y₃) has-members
+
+        pub reference-opened : detailCellsFull (w .state) ≡ false
+            → detailBudgetExhausted q (w .state) ≡ false
+            → visitCountedReference noTag onTape S cells q visit depth tt r p sourceBox worldBox (referenceDrawUnits S cells depth n (w .marks) (w .counts)) w ≡ visited
+        unfolding visitBoxedReference
+        reference-opened b x = (rw (← placed, seen, b, x)) ∙ boxed (Box x₂ y₂ x₃ y₃) has-members

@@ -1,0 +1,136 @@
+-- `visit_steps::member::try_member` meets its contract: each way out by its law in `MemberExits`.
+-- Assumes nothing.
+use mir.Facts.{fits-lt}
+use Rattle.geometry.specs.Grid.{gridCount}
+use Rattle.visit_steps.proofs.MemberExits.{has-a-row, column-within, row-within, try-exhausted, try-culled, try-skipped, try-collapsed, try-opens}
+use borrow.Author.Needs.{needs}
+use Rattle.visit_steps.proofs.member.try_member.Statement.{statement}
+use Rattle.visit_steps.proofs.member.try_member.Tie as tie
+
+rows-divide : tie.Need-div-column
+unfolding gridCount
+rows-divide c =
+    let start = c .before .before .before in
+    has-a-row (start .args .i) (start .args .reference .grid .columns) _ (start .pre)
+
+column-fits : tie.Need-cast-column
+unfolding gridCount
+column-fits c =
+    let start = c .before .before .before in
+    fits-lt (column-within (start .args .i) (start .args .reference .grid .columns) _ (start .pre)) (search needs)
+
+row-fits : tie.Need-cast-row
+unfolding gridCount
+row-fits c =
+    let start = c .before .before .before in
+    fits-lt (row-within (start .args .i) (start .args .reference .grid .columns) _ (start .pre)) (search needs)
+
+exhausted : tie.Need-returns
+exhausted c =
+    let at-add-load = c .before .before in
+    let at-if1 = at-add-load .before .before in
+    let at-budget = at-if1 .before in
+    let at-label = at-budget .before in
+    let start = at-label .before .before .before .before .before .before .before in
+    let a = start .args in
+    λ S cells hidden visit m k.
+    try-exhausted S cells _ visit _ _ _ _ _ _ _ _ _ _ (at-label .label .ensures) _ (at-budget .detail-budget-exhausted .ensures (a .query) hidden)
+    (at-if1 .if1 .taken) _ (at-add-load .add-load .ensures m k)
+
+culled : tie.Need-returns-2
+culled c =
+    let at-if2 = c .before in
+    let at-overlaps = at-if2 .before in
+    let at-if1 = at-overlaps .before in
+    let at-budget = at-if1 .before in
+    let at-label = at-budget .before in
+    let at-transform-bbox = at-label .before in
+    let at-mul = at-transform-bbox .before in
+    let at-grid-member-transform = at-mul .before in
+    let start = at-grid-member-transform .before .before .before .before in
+    let a = start .args in
+    λ S cells hidden visit m k.
+    try-culled S cells _ visit _ _ _ _ _ _ _ _ _ _ (at-label .label .ensures) _ (at-budget .detail-budget-exhausted .ensures (a .query) hidden)
+    (at-if1 .if1 .left) _ (at-grid-member-transform .grid-member-transform .ensures) _ (at-mul .mul .ensures) _ (at-transform-bbox .transform-bbox .ensures) _ (at-overlaps .overlaps .ensures)
+    (at-if2 .if2 .taken) _ (c .count-culled-reference .ensures _ m k)
+
+skipped : tie.Need-returns-3
+skipped c =
+    let at-if3 = c .before in
+    let at-subpixel = at-if3 .before in
+    let at-size = at-subpixel .before in
+    let at-degenerate = at-size .before in
+    let at-if2 = at-degenerate .before in
+    let at-overlaps = at-if2 .before in
+    let at-if1 = at-overlaps .before in
+    let at-budget = at-if1 .before in
+    let at-label = at-budget .before in
+    let at-transform-bbox = at-label .before in
+    let at-mul = at-transform-bbox .before in
+    let at-grid-member-transform = at-mul .before in
+    let start = at-grid-member-transform .before .before .before .before in
+    let a = start .args in
+    λ S cells hidden visit m k.
+    try-skipped S cells _ visit _ _ _ _ _ _ _ _ _ _ (at-label .label .ensures) _ (at-budget .detail-budget-exhausted .ensures (a .query) hidden)
+    (at-if1 .if1 .left) _ (at-grid-member-transform .grid-member-transform .ensures) _ (at-mul .mul .ensures) _ (at-transform-bbox .transform-bbox .ensures) _ (at-overlaps .overlaps .ensures)
+    (at-if2 .if2 .left) _ (at-degenerate .source-is-degenerate .ensures) _ (at-size .reference-screen-size .ensures) _ (at-subpixel .is-subpixel .ensures)
+    (at-if3 .if3 .taken) _ (λ g b. c .count-skipped-member .ensures g b _ m k)
+
+collapsed : tie.Need-returns-4
+collapsed c =
+    let at-add-load = c .before .before in
+    let at-if4 = at-add-load .before .before in
+    let at-collapse = at-if4 .before in
+    let at-if3 = at-collapse .before in
+    let at-subpixel = at-if3 .before in
+    let at-size = at-subpixel .before in
+    let at-degenerate = at-size .before in
+    let at-if2 = at-degenerate .before in
+    let at-overlaps = at-if2 .before in
+    let at-if1 = at-overlaps .before in
+    let at-budget = at-if1 .before in
+    let at-label = at-budget .before in
+    let at-transform-bbox = at-label .before in
+    let at-mul = at-transform-bbox .before in
+    let at-grid-member-transform = at-mul .before in
+    let start = at-grid-member-transform .before .before .before .before in
+    let a = start .args in
+    λ S cells hidden visit m k.
+    try-collapsed S cells _ visit _ _ _ _ _ _ _ _ _ _ (at-label .label .ensures) _ (at-budget .detail-budget-exhausted .ensures (a .query) hidden)
+    (at-if1 .if1 .left) _ (at-grid-member-transform .grid-member-transform .ensures) _ (at-mul .mul .ensures) _ (at-transform-bbox .transform-bbox .ensures) _ (at-overlaps .overlaps .ensures)
+    (at-if2 .if2 .left) _ (at-degenerate .source-is-degenerate .ensures) _ (at-size .reference-screen-size .ensures) _ (at-subpixel .is-subpixel .ensures)
+    (at-if3 .if3 .left) _ (at-collapse .should-collapse-reference .ensures)
+    (at-if4 .if4 .taken) _ (at-add-load .add-load2 .ensures m k)
+
+opens : tie.Need-returns-5
+opens c =
+    let at-collapse = c .before in
+    let at-if3 = at-collapse .before in
+    let at-subpixel = at-if3 .before in
+    let at-size = at-subpixel .before in
+    let at-degenerate = at-size .before in
+    let at-if2 = at-degenerate .before in
+    let at-overlaps = at-if2 .before in
+    let at-if1 = at-overlaps .before in
+    let at-budget = at-if1 .before in
+    let at-label = at-budget .before in
+    let at-transform-bbox = at-label .before in
+    let at-mul = at-transform-bbox .before in
+    let at-grid-member-transform = at-mul .before in
+    let start = at-grid-member-transform .before .before .before .before in
+    let a = start .args in
+    λ S cells hidden visit m k.
+    try-opens S cells _ visit _ _ _ _ _ _ _ _ _ _ (at-label .label .ensures) _ (at-budget .detail-budget-exhausted .ensures (a .query) hidden)
+    (at-if1 .if1 .left) _ (at-grid-member-transform .grid-member-transform .ensures) _ (at-mul .mul .ensures) _ (at-transform-bbox .transform-bbox .ensures) _ (at-overlaps .overlaps .ensures)
+    (at-if2 .if2 .left) _ (at-degenerate .source-is-degenerate .ensures) _ (at-size .reference-screen-size .ensures) _ (at-subpixel .is-subpixel .ensures)
+    (at-if3 .if3 .left) _ (at-collapse .should-collapse-reference .ensures)
+    (c .if4 .left)
+
+pub try-member-spec : {M : Type 1} → statement M
+try-member-spec =
+    tie.close
+    (tie.spec (λ c. search needs) rows-divide column-fits rows-divide row-fits
+    (λ c κs. search needs) (λ c κs. search needs) (λ c κs. search needs) (λ c κs. search needs) (λ c κs. search needs) (λ c κs. search needs)
+    (λ c. search needs) exhausted (λ c κs. search needs) (λ c κs. search needs) culled
+    (λ c κs. search needs) (λ c κs. search needs) (λ c κs. search needs) (λ c κs. search needs)
+    skipped (λ c κs. search needs) (λ c κs. search needs) (λ c. search needs) collapsed opens)
