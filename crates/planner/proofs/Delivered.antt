@@ -1,10 +1,11 @@
 -- THE END OF A CALL: what `finish` answers after the visits, with the scratch zeroed, is the outcome that the rules define.
 -- Assumes nothing.
-use mathlib.Core.Path.{_≡_, refl, sym, ap, _∙_}
+use mathlib.Core.Path.{_≡_, sym, ap, _∙_}
 use mathlib.Core.Bool.{cond}
-use mathlib.Core.List.{List}
-use Prim.Native.Nat.{ℕ, _<_}
-use lib.ListN.{length, replicate}
+use mathlib.Core.List.{List, _++_}
+use Prim.Native.Nat.{ℕ, _≤_, _<_}
+use lib.ListN.{length, replicate, take, drop}
+use lib.Seq.{length-take-le}
 use lib.Dec.{leb}
 use Rattle.layout.specs.Sheet.{Sheet}
 use Rattle.rules.specs.declared.Answer.{Answer}
@@ -17,10 +18,11 @@ use Rattle.rules.specs.Scratch.{countsNamed, marksNamed}
 use Rattle.rules.specs.Push.{say}
 use Rattle.rules.specs.Plan.{visitRoot, plan}
 use Rattle.rules.specs.Tape.{noTag, onTape}
-use Rattle.rules.specs.Outcome.{Outcome, outcome, freshPlan, tapeOf, zeroed, delivered}
+use Rattle.rules.specs.Outcome.{outcome, freshPlan, tapeOf, zeroed, delivered}
 use Rattle.rules.proofs.TapeTheorem.{same-output-length}
 use Rattle.rules.proofs.OutcomeTheorem.{written, writtenOutcome, delivered-is-written}
 use Rattle.planner.specs.Answered.{answered}
+use Rattle.planner.specs.Swept.{visited, swept}
 
 module _ (S : Sheet) (cells : ℕ) (q : Query) (o k m : List ℕ) where
   abbrev nk : ℕ
@@ -30,18 +32,18 @@ module _ (S : Sheet) (cells : ℕ) (q : Query) (o k m : List ℕ) where
   nm = marksNamed cells (q .depth)
 
   -- the run that writes, and the scratch zeroed after it
-  abbrev swept : World (List ℕ)
-  swept = world (written S cells q o k m .state) (written S cells q o k m .out) (zeroed nm m) (zeroed nk k)
+  abbrev ended : World (List ℕ)
+  ended = world (written S cells q o k m .state) (written S cells q o k m .out) (zeroed nm m) (zeroed nk k)
 
   same-output : length (written S cells q o k m .out) ≡ length o
   unfolding freshPlan
   same-output = same-output-length noTag S cells q tt o (replicate nm 0) (replicate nk 0)
 
-  answered-is-written : answered swept ≡ writtenOutcome S cells q o k m
+  answered-is-written : answered ended ≡ writtenOutcome S cells q o k m
   unfolding answered writtenOutcome
   answered-is-written =
-      ap (λ (n : ℕ). cond (leb (swept .state .«tape_end») n)
-      (outcome (Planned (swept .state .«tape_end»)) (swept .out) (zeroed nk k) (zeroed nm m))
+      ap (λ (n : ℕ). cond (leb (ended .state .«tape_end») n)
+      (outcome (Planned (ended .state .«tape_end»)) (ended .out) (zeroed nk k) (zeroed nm m))
       (outcome (Refused 12 0) (replicate n 0) (zeroed nk k) (zeroed nm m))) same-output
 
   -- `visited`: what the visits left of the plan and the output. `finished`: the contract of `finish`.
@@ -55,3 +57,20 @@ module _ (S : Sheet) (cells : ℕ) (q : Query) (o k m : List ℕ) where
       ∙ ap (λ (v : World (List ℕ)). answered (say noTag onTape tt (totals (v .state)) (world (v .state) (v .out) (zeroed nm m) (zeroed nk k)))) visited
       ∙ answered-is-written
       ∙ sym (delivered-is-written S cells q o k m small)
+
+  -- The same from the sweep over just the named places, `uk` counts and `um` marks: the places behind them stay as lent.
+  module _ (uk um : ℕ) (counts-used : uk ≡ nk) (marks-used : um ≡ nm) (counts-lent : uk ≤ length k) (marks-lent : um ≤ length m) where
+    abbrev left : World (List ℕ)
+    left = visited S cells q o nm nk
+
+    pub sweep-delivered : (length o < maxTotal) → (s : ScenePlan) (b m₁ k₁ : List ℕ)
+        → (ran : world s b m₁ k₁ ≡ swept S cells q o (length (take um m)) (length (take uk k)))
+        → (a : Answer) (b₁ : List ℕ) → (finished : (m k : List ℕ) → outcome a b₁ k m ≡ answered (say noTag onTape tt (totals s) (world s b m k)))
+        → outcome a b₁ (k₁ ++ drop uk k) (m₁ ++ drop um m) ≡ delivered (tapeOf S cells q) nk nm o k m
+    unfolding swept visited zeroed
+    sweep-delivered small s b m₁ k₁ ran a b₁ finished =
+        let marks-named = length-take-le um m marks-lent ∙ marks-used in
+        let counts-named = length-take-le uk k counts-lent ∙ counts-used in
+        let w : world s b m₁ k₁ ≡ swept S cells q o nm nk = ran ∙ (λ i. swept S cells q o (marks-named i) (counts-named i)) in
+        (λ i. outcome a b₁ (w i .counts ++ drop (counts-used i) k) (w i .marks ++ drop (marks-used i) m))
+        ∙ call-delivered small s b (left .marks) (left .counts) (λ i. world (w i .state) (w i .out) (left .marks) (left .counts)) a b₁ finished

@@ -1,4 +1,6 @@
 pub mod View  -- question 8, by code path
-pub mod Scratch  -- question 11: no size of scratch wraps
+pub mod Scratch  -- question 11: no size of scratch wraps; by code path
 pub mod Answers  -- question 12, by code path
+pub mod Clean  -- the visits on zeroed scratch
 pub mod Delivered  -- the answer is the outcome that the rules define
+pub mod Corollaries  -- demand 3 of the bytes that `plan` writes

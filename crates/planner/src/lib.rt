@@ -1,5 +1,9 @@
-// The two ends of a plan: the questions about the query and the lent scratch, what a plan starts from, and the answer to question 12.
-// Document 01, "Before a plan: the questions", 8 to 12. Every function is total.
+// The planner: `plan` asks document 01's questions in order, visits the sheet from its root, and leaves the tape in the lent output.
+// Every function is total: any bytes, any query and any lent memory get an answer.
 pub mod ask; // questions 8, 9 and 11
 pub mod start; // the root's placement and the empty plan
 pub mod finish; // the totals, and question 12
+mod root; // the visit of the root
+mod entry; // the entry point
+
+pub use entry::plan;

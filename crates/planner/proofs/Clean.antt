@@ -1,0 +1,30 @@
+-- The visits between two zeroings, as the code makes them step by step, are the sweep that `Swept` defines.
+-- Assumes nothing.
+use mathlib.Core.Path.{_≡_, ap, _∙_}
+use mathlib.Core.List.{List}
+use Prim.Native.Nat.{ℕ}
+use lib.ListN.{length, replicate}
+use Rattle.layout.specs.Sheet.{Sheet}
+use Rattle.rules.specs.declared.ScenePlan.{ScenePlan}
+use Rattle.rules.specs.Event.{emptyPlan}
+use Rattle.rules.specs.World.{Query, world}
+use Rattle.rules.specs.Plan.{visitRoot}
+use Rattle.rules.specs.Tape.{noTag, onTape}
+use Rattle.planner.specs.Swept.{visited, swept}
+
+-- Places as lent, zeroed (₁), as the visits leave them (₂), and zeroed again (₃).
+module _ (S : Sheet) (cells : ℕ) (q : Query) (o m k : List ℕ) where
+  zeroed-again : (l l₂ : List ℕ) {l₃ : List ℕ} → length l₂ ≡ length l → l₃ ≡ replicate (length l₂) 0 → l₃ ≡ replicate (length l) 0
+  zeroed-again l l₂ kept zeroed = zeroed ∙ ap (λ (n : ℕ). replicate n 0) kept
+
+  pub clean : (e s : ScenePlan) (b m₁ m₂ m₃ k₁ k₂ k₃ : List ℕ)
+      → k₁ ≡ replicate (length k) 0 → m₁ ≡ replicate (length m) 0 → e ≡ emptyPlan
+      → (visits : world s b m₂ k₂ ≡ visitRoot noTag onTape S cells q (q .depth) tt (world e o m₁ k₁))
+      → length k₂ ≡ length k → length m₂ ≡ length m → k₃ ≡ replicate (length k₂) 0 → m₃ ≡ replicate (length m₂) 0
+      → world s b m₃ k₃ ≡ swept S cells q o (length m) (length k)
+  unfolding swept visited
+  clean e s b m₁ m₂ m₃ k₁ k₂ k₃ zeroed-k zeroed-m empty visits kept-k kept-m again-k again-m =
+      let end-m = zeroed-again m m₂ kept-m again-m in
+      let end-k = zeroed-again k k₂ kept-k again-k in
+      let run = visits ∙ (λ i. visitRoot noTag onTape S cells q (q .depth) tt (world (empty i) o (zeroed-m i) (zeroed-k i))) in
+      λ i. world (run i .state) (run i .out) (end-m i) (end-k i)

@@ -1,0 +1,26 @@
+-- `planner::plan` meets its contract: the sheet's own check decides questions 1 to 7, and `plan_sound` the others.
+-- Assumes nothing.
+use mathlib.Core.Path.{sym, _∙_}
+use Rattle.rules.proofs.OutcomeTheorem.{sheet-refused, sheet-sound}
+use borrow.Author.Needs.{needs}
+use Rattle.planner.proofs.entry.plan.Statement.{statement}
+use Rattle.planner.proofs.entry.plan.Tie as tie
+
+refused : tie.Need-returns
+refused c =
+    let at-number = c .before in
+    let at-check-sheet = at-number .before .before in
+    sym (sheet-refused _ _ _ _ _ _ _ (sym (at-check-sheet .check-sheet .ensures) ∙ at-number .number .given .1))
+
+sound : tie.Need-returns-2
+sound c =
+    let at-plan-sound = c .before .before .before .before .before .before in
+    let at-counted = at-plan-sound .before .before .before .before .before in
+    let at-check-sheet = at-counted .before .before in
+    at-plan-sound .plan-sound .ensures ∙ sym (sheet-sound _ _ _ _ _ _ (sym (at-check-sheet .check-sheet .ensures) ∙ at-counted .counted .given .1))
+
+pub plan-spec : {M : Type 1} → statement M
+plan-spec =
+    tie.close
+    (tie.spec (λ c κs. search needs) (λ c. search needs) (λ c. search needs) (λ c κs. search needs) refused (λ c. search needs)
+    (λ c. search needs) (λ c. search needs) sound)

@@ -1,0 +1,74 @@
+-- `planner::root::load_root` meets its contract: one law of the rules for each way out.
+-- Assumes nothing.
+use mathlib.Core.Path.{sym, ap, _∙_}
+use denote.Ref.{now}
+use borrow.Author.Tests.{not-true, not-false}
+use Rattle.geometry.specs.declared.bbox.WorldBBox.{WorldBBox}
+use Rattle.geometry.specs.Bbox.{overlaps}
+use Rattle.records.specs.declared.PreparedCell.{PreparedCell}
+use Rattle.layout.specs.Sheet.{cells, cellRecordAt}
+use Rattle.layout.specs.Lookup.{item-read}
+use Rattle.rules.specs.World.{world}
+use Rattle.rules.specs.Push.{addLoad}
+use Rattle.rules.specs.Tape.{noTag, onTape}
+use Rattle.rules.proofs.Paths.Plans.{root-missing, root-unboxed, root-outside, root-loaded}
+use borrow.Author.Needs.{needs}
+use Rattle.planner.proofs.root.load_root.Statement.{statement}
+use Rattle.planner.proofs.root.load_root.Tie as tie
+
+missing : tie.Need-returns
+missing c =
+    let at-find = c .before .before in
+    λ n limit hidden m k. sym (root-missing noTag onTape _ _ _ tt _ (item-read cells _ _ (sym (at-find .find .ensures) ∙ c .enum-told .given .1)))
+
+unboxed : tie.Need-returns-2
+unfolding cellRecordAt
+unboxed c =
+    let at-cell-at = c .before .before in
+    let at-at = at-cell-at .before .before in
+    let at-find = at-at .before .before in
+    let there = item-read cells _ _ (sym (at-find .find .ensures) ∙ at-at .at .given .1) in
+    let box = sym (ap (λ (r : PreparedCell). r .bbox) (at-cell-at .cell-at .ensures)) ∙ c .enum-told2 .given .1 in
+    λ n limit hidden m k. sym (root-unboxed noTag onTape _ _ _ tt _ _ there box)
+
+outside : tie.Need-returns-3
+unfolding cellRecordAt
+outside c =
+    let at-overlaps = c .before in
+    let at-new = at-overlaps .before in
+    let at-bounds = at-new .before .before in
+    let at-cell-at = at-bounds .before .before in
+    let at-at = at-cell-at .before .before in
+    let at-find = at-at .before .before in
+    let a = at-find .before .before .before .args in
+    let there = item-read cells _ _ (sym (at-find .find .ensures) ∙ at-at .at .given .1) in
+    let box = sym (ap (λ (r : PreparedCell). r .bbox) (at-cell-at .cell-at .ensures)) ∙ at-bounds .bounds .given .1 in
+    let unseen = sym (ap (λ (b : WorldBBox). overlaps b (a .query .view)) (at-new .new .ensures)) ∙ sym (at-overlaps .overlaps .ensures) ∙ not-true _ (c .if1 .taken) in
+    λ n limit hidden m k. sym (root-outside noTag onTape _ _ _ tt _ _ there _ _ _ _ box unseen)
+
+loaded : tie.Need-returns-4
+unfolding cellRecordAt
+loaded c =
+    let at-add-load = c .before .before in
+    let at-if1 = at-add-load .before .before in
+    let at-overlaps = at-if1 .before in
+    let at-new = at-overlaps .before in
+    let at-bounds = at-new .before .before in
+    let at-cell-at = at-bounds .before .before in
+    let at-at = at-cell-at .before .before in
+    let at-find = at-at .before .before in
+    let a = at-find .before .before .before .args in
+    let there = item-read cells _ _ (sym (at-find .find .ensures) ∙ at-at .at .given .1) in
+    let box = sym (ap (λ (r : PreparedCell). r .bbox) (at-cell-at .cell-at .ensures)) ∙ at-bounds .bounds .given .1 in
+    let seen = sym (ap (λ (b : WorldBBox). overlaps b (a .query .view)) (at-new .new .ensures)) ∙ sym (at-overlaps .overlaps .ensures) ∙ not-false _ (at-if1 .if1 .left) in
+    λ n limit hidden m k.
+    at-add-load .add-load .ensures m k
+    ∙ ap (λ (b : WorldBBox). addLoad noTag onTape tt (a .query .root) b (world (a .plan) (now (a .out)) m k)) (at-new .new .ensures)
+    ∙ sym (root-loaded noTag onTape _ _ _ tt _ _ there _ _ _ _ box seen)
+
+pub load-root-spec : {M : Type 1} → statement M
+load-root-spec =
+    tie.close
+    (tie.spec (λ c κs. search needs) (λ c. search needs) (λ c. search needs) missing (λ c κs. search needs) (λ c. search needs)
+    (λ c. search needs) unboxed (λ c κs. search needs) (λ c κs. search needs) outside (λ c κs. search needs) (λ c. search needs)
+    loaded)

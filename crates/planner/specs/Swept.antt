@@ -1,0 +1,19 @@
+-- The visits on scratch that is zeroed before and after: the tape cannot depend on what the scratch held, and nothing is left in it.
+-- Definitions only; rests on the rules' `World` and `Plan`.
+use mathlib.Core.List.{List}
+use Prim.Native.Nat.{ℕ}
+use lib.ListN.{replicate}
+use Rattle.layout.specs.Sheet.{Sheet}
+use Rattle.rules.specs.Event.{emptyPlan}
+use Rattle.rules.specs.World.{Query, World, world}
+use Rattle.rules.specs.Plan.{visitRoot}
+use Rattle.rules.specs.Tape.{noTag, onTape}
+
+-- what the visits leave, from an empty plan and that many zeroed marks and counts
+unfoldable pub visited : Sheet → ℕ → Query → List ℕ → ℕ → ℕ → World (List ℕ)
+visited S cells q o marks counts = visitRoot noTag onTape S cells q (q .depth) tt (world emptyPlan o (replicate marks 0) (replicate counts 0))
+
+unfoldable pub swept : Sheet → ℕ → Query → List ℕ → ℕ → ℕ → World (List ℕ)
+swept S cells q o marks counts =
+    let w = visited S cells q o marks counts in
+    world (w .state) (w .out) (replicate marks 0) (replicate counts 0)
