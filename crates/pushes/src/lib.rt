@@ -1,5 +1,4 @@
-// What a plan lists, each item by the test and in the order of bevy_scene.rs: `add_load`, `push_geometry`, `push_text`, `push_node`,
-// and the loops of `visit_cell` over a cell's batches, texts and nodes.
+// What a plan lists, each item by the test and in the order of bevy_scene.rs: `add_load`, `push_geometry`, `push_text`, `push_node`.
 // Every function is total. What it leaves of the plan and of the output is what the rules' definition of the same name says.
 use rules::ScenePlan;
 
@@ -7,7 +6,6 @@ mod limits; // the budget, and hidden layers
 mod events; // what an event adds to the plan, and its record on the tape
 mod load; // proxies
 mod items; // batches, texts and nodes by number
-mod lists; // the lists of a cell
 
 pub use events::count_culled_batch;
 pub use events::count_culled_reference;
@@ -24,9 +22,6 @@ pub use items::push_node;
 pub use items::push_text;
 pub use limits::detail_budget_exhausted;
 pub use limits::is_hidden;
-pub use lists::push_geometries;
-pub use lists::push_nodes;
-pub use lists::push_texts;
 pub use load::add_load;
 pub use load::add_load_if_boxed;
 

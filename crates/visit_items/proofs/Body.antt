@@ -1,6 +1,6 @@
 -- The loops of `visit_cell` before that over its references, by code path: where one of them halts, the visit is over.
 -- Assumes nothing.
-use mathlib.Core.Path.{_≡_, refl, sym, ap, _∙_}
+use mathlib.Core.Path.{_≡_, sym, ap, _∙_}
 use mathlib.Core.Bool.{Bool, true, false, not}
 use mathlib.Core.List.{List}
 use Prim.Native.Nat.{ℕ}
@@ -8,7 +8,7 @@ use borrow.Author.Tests.{not-true, not-false}
 use Rattle.geometry.specs.declared.bbox.Bounds.{Bounds}
 use Rattle.geometry.specs.declared.placement.Placement.{Placement}
 use Rattle.layout.specs.Sheet.{CellRecord, Sheet}
-use Rattle.rules.specs.World.{Query, World, Flow, go, halt, bind, flow, each, ending}
+use Rattle.rules.specs.World.{Query, World, Flow, go, halt, flow, each, ending}
 use Rattle.rules.specs.Visit.{VisitReference, geometryStep, textStep, nodeStep, referenceStep, cellBody}
 use Rattle.rules.specs.Tape.{noTag, onTape}
 

@@ -1,1 +1,2 @@
+pub mod CellLoop
 pub mod Body

@@ -1,4 +1,7 @@
 // The batches, texts and nodes of a cell in one call, so that the visit of a cell has one loop left: that over its references.
+use crate::lists::push_geometries;
+use crate::lists::push_nodes;
+use crate::lists::push_texts;
 use geometry::bbox::Bounds;
 use geometry::placement::Placement;
 use rules::SceneOptions;
@@ -10,6 +13,8 @@ ghost use Rattle.layout.specs.Sheet.{sheetOf, cellRecordAt};
 ghost use Rattle.rules.specs.World.{queryOf, world, each, ending};
 ghost use Rattle.rules.specs.Visit.{VisitReference, referenceStep, cellBody};
 ghost use Rattle.rules.specs.Tape.{noTag, onTape};
+
+mod lists; // the loop over each list
 
 // A plan, and how many references are left to visit: none after a limit.
 pub struct Listed {
@@ -31,7 +36,7 @@ pub fn push_items(
 ) -> Listed
     ensures { λ r. ⌜ ((cells : ℕ) (visit : VisitReference noTag onTape (sheetOf (now (sheet .entry))) cells (queryOf query (now (hidden .entry)) «object_limit»)) (m k : List ℕ) → ending (each (referenceStep noTag onTape (sheetOf (now (sheet .entry))) cells (queryOf query (now (hidden .entry)) «object_limit») tt cell (cellRecordAt (now (sheet .entry)) at) transform bounds visit) (r .references) 0 (world (r .plan) (now (out .exit)) m k)) ≡ ending (cellBody noTag onTape (sheetOf (now (sheet .entry))) cells (queryOf query (now (hidden .entry)) «object_limit») tt cell (cellRecordAt (now (sheet .entry)) at) transform bounds visit (world plan (now (out .entry)) m k))) ⌝ }
 {
-    let geometries = pushes::push_geometries(
+    let geometries = push_geometries(
         sheet,
         query,
         hidden,
@@ -50,7 +55,7 @@ pub fn push_items(
             references: 0,
         };
     }
-    let texts = pushes::push_texts(
+    let texts = push_texts(
         sheet,
         query,
         hidden,
@@ -69,7 +74,7 @@ pub fn push_items(
             references: 0,
         };
     }
-    let nodes = pushes::push_nodes(
+    let nodes = push_nodes(
         sheet,
         query,
         hidden,

@@ -44,13 +44,9 @@ module _ {P A : Type 0} (enter : Step → P → P) (emit : P → Event → ℕ �
       unfolding textStep
       text-step-goes = rw room
 
-      pub node-step-goes : (v : World A) → pushNode enter emit S q (enter (nodeAt i) t) (c .nodes .at i) p w ≡ go v → nodeStep enter emit S cells q t n c p box i w ≡ go v
+      pub node-step-with-room : nodeStep enter emit S cells q t n c p box i w ≡ haltWithCell enter emit t n box (pushNode enter emit S q (enter (nodeAt i) t) (c .nodes .at i) p w)
       unfolding nodeStep
-      node-step-goes v e = rw (room, e)
-
-      pub node-step-halts : (v : World A) → pushNode enter emit S q (enter (nodeAt i) t) (c .nodes .at i) p w ≡ halt v → nodeStep enter emit S cells q t n c p box i w ≡ halt (addLoadIfBoxed enter emit t n box v)
-      unfolding nodeStep
-      node-step-halts v e = rw (room, e)
+      node-step-with-room = rw room
 
       pub reference-step-goes : (visit : VisitReference enter emit S cells q) → referenceStep enter emit S cells q t n c p box visit i w ≡ go (visit (enter (referenceAt i) t) (c .references .at i) p w)
       unfolding referenceStep

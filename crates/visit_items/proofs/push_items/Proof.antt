@@ -1,91 +1,77 @@
 -- `visit_items::push_items` meets its contract: each way out by its law in `Body`.
 -- Assumes nothing.
-use borrow.Author.Needs.{needs}
 use mathlib.Core.Path.{_≡_, ap, _∙_}
+use mathlib.Core.List.{List}
+use Prim.Native.Nat.{ℕ}
+use lib.ListN.{length}
+use denote.Ref.{now}
 use Rattle.records.specs.declared.PreparedCell.{PreparedCell}
 use Rattle.layout.specs.Sheet.{cellRecordAt}
+use Rattle.rules.specs.World.{World, world}
 use Rattle.visit_items.proofs.Body
-use Rattle.rules.specs.World.{world}
+use borrow.Author.Needs.{needs}
 use Rattle.visit_items.proofs.push_items.Statement.{statement}
 use Rattle.visit_items.proofs.push_items.Tie as tie
 
-push-geometries-requires : tie.Need-push-geometries-requires
-push-geometries-requires c κs = search needs
+-- ---- the worlds that the three loops leave, and the way back to each
 
-same-length : tie.Need-same-length
-same-length c = search needs
+abbrev listed : tie.After-push-geometries → List ℕ → List ℕ → World (List ℕ)
+listed g m k = world (g .push-geometries .result .plan) (g .push-geometries .last .1 .1 .1 .1 .0) m k
 
-returns : tie.Need-returns
-returns c =
+abbrev to-geometries : tie.Else1 → tie.After-push-geometries
+to-geometries i = i .before .before .before .before .before
+
+abbrev listed-texts : tie.After-push-texts → List ℕ → List ℕ → World (List ℕ)
+listed-texts t m k = world (t .push-texts .result .plan) (t .push-texts .last .1 .1 .1 .1 .0) m k
+
+abbrev to-texts : tie.Else2 → tie.After-push-texts
+to-texts j = j .before .before .before .before .before
+
+abbrev listed-nodes : tie.After-push-nodes → List ℕ → List ℕ → World (List ℕ)
+listed-nodes n m k = world (n .push-nodes .result .plan) (n .push-nodes .last .1 .1 .1 .1 .0) m k
+
+same-length : (n : tie.After-push-nodes) → length (n .push-nodes .last .1 .1 .1 .1 .0) ≡ length (now (to-geometries (to-texts (n .before .before) .before .before) .before .before .before .before .before .args .out))
+same-length n =
+    let t = to-texts (n .before .before) in
+    let g = to-geometries (t .before .before) in
+    n .push-nodes .kept .1 .1 .1 .1 .0 ∙ t .push-texts .kept .1 .1 .1 .1 .0 ∙ g .push-geometries .kept .1 .1 .1 .1 .0
+
+-- ---- the ways out
+
+geometries-halt : tie.Need-returns
+geometries-halt c =
     let g = c .before .before .before .before .before in
-    λ cells visit m k. Body.geometries-halt _ _ _ _ _ _ _ visit _ (g .push-geometries .result .whole) (world (g .push-geometries .result .plan) (g .push-geometries .last .1 .1 .1 .1 .0) m k) (g .push-geometries .ensures cells m k) (c .if1 .taken)
+    λ cells visit m k. Body.geometries-halt _ _ _ _ _ _ _ visit _ (g .push-geometries .result .whole) (listed g m k) (g .push-geometries .ensures cells m k) (c .if1 .taken)
 
-push-texts-requires : tie.Need-push-texts-requires
-push-texts-requires c κs = search needs
-
-same-length-2 : tie.Need-same-length-2
-same-length-2 c = search needs
-
-returns-2 : tie.Need-returns-2
-returns-2 c =
+texts-halt : tie.Need-returns-2
+texts-halt c =
     let t = c .before .before .before .before .before in
     let i = t .before .before in
-    let g = i .before .before .before .before .before in
-    λ cells visit m k. Body.texts-halt _ _ _ _ _ _ _ visit _ (g .push-geometries .result .whole) (world (g .push-geometries .result .plan) (g .push-geometries .last .1 .1 .1 .1 .0) m k) (g .push-geometries .ensures cells m k) (i .if1 .left) (t .push-texts .result .whole) (world (t .push-texts .result .plan) (t .push-texts .last .1 .1 .1 .1 .0) m k) (t .push-texts .ensures cells m k) (c .if2 .taken)
+    let g = to-geometries i in
+    λ cells visit m k. Body.texts-halt _ _ _ _ _ _ _ visit _ (g .push-geometries .result .whole) (listed g m k) (g .push-geometries .ensures cells m k) (i .if1 .left) (t .push-texts .result .whole) (listed-texts t m k) (t .push-texts .ensures cells m k) (c .if2 .taken)
 
-push-nodes-requires : tie.Need-push-nodes-requires
-push-nodes-requires c κs = search needs
-
-same-length-3 : tie.Need-same-length-3
-same-length-3 c =
-    let n = c .before .before .before .before .before in
-    let t = n .before .before .before .before .before .before .before in
-    let g = t .before .before .before .before .before .before .before in
-    n .push-nodes .kept .1 .1 .1 .1 .0 ∙ t .push-texts .kept .1 .1 .1 .1 .0 ∙ g .push-geometries .kept .1 .1 .1 .1 .0
-
-returns-3 : tie.Need-returns-3
-returns-3 c =
+nodes-halt : tie.Need-returns-3
+nodes-halt c =
     let n = c .before .before .before .before .before in
     let j = n .before .before in
-    let t = j .before .before .before .before .before in
+    let t = to-texts j in
     let i = t .before .before in
-    let g = i .before .before .before .before .before in
-    λ cells visit m k. Body.nodes-halt _ _ _ _ _ _ _ visit _ (g .push-geometries .result .whole) (world (g .push-geometries .result .plan) (g .push-geometries .last .1 .1 .1 .1 .0) m k) (g .push-geometries .ensures cells m k) (i .if1 .left) (t .push-texts .result .whole) (world (t .push-texts .result .plan) (t .push-texts .last .1 .1 .1 .1 .0) m k) (t .push-texts .ensures cells m k) (j .if2 .left) (n .push-nodes .result .whole) (world (n .push-nodes .result .plan) (n .push-nodes .last .1 .1 .1 .1 .0) m k) (n .push-nodes .ensures cells m k) (c .if3 .taken)
+    let g = to-geometries i in
+    λ cells visit m k. Body.nodes-halt _ _ _ _ _ _ _ visit _ (g .push-geometries .result .whole) (listed g m k) (g .push-geometries .ensures cells m k) (i .if1 .left) (t .push-texts .result .whole) (listed-texts t m k) (t .push-texts .ensures cells m k) (j .if2 .left) (n .push-nodes .result .whole) (listed-nodes n m k) (n .push-nodes .ensures cells m k) (c .if3 .taken)
 
-cell-at-requires : tie.Need-cell-at-requires
-cell-at-requires c κs = search needs
-
-same-length-4 : tie.Need-same-length-4
-same-length-4 c =
-    let n = c .before .before .before .before .before .before in
-    let t = n .before .before .before .before .before .before .before in
-    let g = t .before .before .before .before .before .before .before in
-    n .push-nodes .kept .1 .1 .1 .1 .0 ∙ t .push-texts .kept .1 .1 .1 .1 .0 ∙ g .push-geometries .kept .1 .1 .1 .1 .0
-
-returns-4 : tie.Need-returns-4
+all-listed : tie.Need-returns-4
 unfolding cellRecordAt
-returns-4 c =
-    let z = c .before in
-    let n = z .before .before .before .before .before in
+all-listed c =
+    let n = c .before .before .before .before .before .before in
     let j = n .before .before in
-    let t = j .before .before .before .before .before in
+    let t = to-texts j in
     let i = t .before .before in
-    let g = i .before .before .before .before .before in
-    λ cells visit m k. Body.all-listed _ _ _ _ _ _ _ visit _ (g .push-geometries .result .whole) (world (g .push-geometries .result .plan) (g .push-geometries .last .1 .1 .1 .1 .0) m k) (g .push-geometries .ensures cells m k) (i .if1 .left) (t .push-texts .result .whole) (world (t .push-texts .result .plan) (t .push-texts .last .1 .1 .1 .1 .0) m k) (t .push-texts .ensures cells m k) (j .if2 .left) (n .push-nodes .result .whole) (world (n .push-nodes .result .plan) (n .push-nodes .last .1 .1 .1 .1 .0) m k) (n .push-nodes .ensures cells m k) (z .if3 .left) _ (ap (λ (r : PreparedCell). r .references) (c .cell-at .ensures))
+    let g = to-geometries i in
+    λ cells visit m k. Body.all-listed _ _ _ _ _ _ _ visit _ (g .push-geometries .result .whole) (listed g m k) (g .push-geometries .ensures cells m k) (i .if1 .left) (t .push-texts .result .whole) (listed-texts t m k) (t .push-texts .ensures cells m k) (j .if2 .left) (n .push-nodes .result .whole) (listed-nodes n m k) (n .push-nodes .ensures cells m k) (c .before .if3 .left) _ (ap (λ (r : PreparedCell). r .references) (c .cell-at .ensures))
 
 pub push-items-spec : {M : Type 1} → statement M
 push-items-spec =
     tie.close
-    (tie.spec
-    push-geometries-requires
-    same-length
-    returns
-    push-texts-requires
-    same-length-2
-    returns-2
-    push-nodes-requires
-    same-length-3
-    returns-3
-    cell-at-requires
-    same-length-4
-    returns-4)
+    (tie.spec (λ c κs. search needs) (λ c. search needs) geometries-halt (λ c κs. search needs) (λ c. search needs) texts-halt
+    (λ c κs. search needs) (λ c. same-length (c .before .before .before .before .before)) nodes-halt
+    (λ c κs. search needs) (λ c. same-length (c .before .before .before .before .before .before)) all-listed)

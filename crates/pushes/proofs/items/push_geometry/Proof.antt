@@ -1,16 +1,19 @@
 -- `pushes::push_geometry` meets its contract: one law of the rules for each way out.
 -- Assumes nothing.
-use mathlib.Core.Path.{_≡_, refl, sym, ap, _∙_}
+use mathlib.Core.Path.{_≡_, sym, ap, _∙_}
+use mathlib.Core.Bool.{true, false}
+use mathlib.Core.List.{List}
 use mathlib.Core.Option.{some}
+use Prim.Native.Nat.{ℕ}
 use denote.Ref.{now}
 use borrow.Author.Tests.{not-true, not-false}
 use Rattle.geometry.specs.declared.bbox.WorldBBox.{WorldBBox}
 use Rattle.geometry.specs.declared.screen.ScreenSize.{ScreenSize}
-use Rattle.geometry.specs.Bbox.{overlaps}
+use Rattle.geometry.specs.Bbox.{transformBbox, overlaps}
 use Rattle.geometry.specs.Screen.{screenSize, isSubpixel, isDenseBatch}
-use Rattle.layout.specs.Sheet.{geometries}
+use Rattle.layout.specs.Sheet.{sheetOf, geometries}
 use Rattle.layout.specs.Lookup.{item-read}
-use Rattle.rules.specs.World.{world}
+use Rattle.rules.specs.World.{Query, queryOf, hides, detailBudgetExhausted, World, world}
 use Rattle.rules.specs.Push.{noLabel, addLoad}
 use Rattle.rules.specs.Tape.{noTag, onTape}
 use Rattle.rules.proofs.Paths.Pushes.{geometry-missing, geometry-hidden, geometry-culled, geometry-skipped, geometry-dense, geometry-exhausted, geometry-listed}
@@ -18,150 +21,134 @@ use borrow.Author.Needs.{needs}
 use Rattle.pushes.proofs.items.push_geometry.Statement.{statement}
 use Rattle.pushes.proofs.items.push_geometry.Tie as tie
 
+-- ---- what is known, stated at the first place that knows it
+
+-- the batch is read: its start, the query, the world and the placed box
+abbrev start : tie.After-geometry-at → tie.Start
+start c = c .before .before .before .before .before .before .before .before
+
+abbrev query : tie.After-geometry-at → Query
+query c = queryOf (start c .args .query) (now (start c .args .hidden)) (start c .args .object-limit)
+
+abbrev entered : tie.After-geometry-at → List ℕ → List ℕ → World (List ℕ)
+entered c m k = world (start c .args .plan) (now (start c .args .out)) m k
+
+abbrev placed : tie.After-geometry-at → WorldBBox
+placed c = transformBbox (start c .args .transform) (c .geometry-at .result .bbox)
+
+there : (c : tie.After-geometry-at) → sheetOf (now (start c .args .sheet)) .geometry (start c .args .number) ≡ some (c .geometry-at .result)
+there c =
+    let at-at = c .before .before in
+    item-read geometries _ _ (sym (at-at .before .before .find .ensures) ∙ at-at .at .given .1) ∙ ap some (sym (c .geometry-at .ensures))
+
+asked-hidden : (c : tie.After-is-hidden) → hides (query (c .before)) (c .before .geometry-at .result .layer) (c .before .geometry-at .result .«data_type») ≡ c .is-hidden .result
+asked-hidden c = sym (c .is-hidden .ensures (start (c .before) .args .query) (start (c .before) .args .object-limit))
+
+-- the batch is shown
+abbrev shown-batch : tie.Else1 → tie.After-geometry-at
+shown-batch c = c .before .before
+
+shown : (c : tie.Else1) → hides (query (shown-batch c)) (shown-batch c .geometry-at .result .layer) (shown-batch c .geometry-at .result .«data_type») ≡ false
+shown c = asked-hidden (c .before) ∙ c .if1 .left
+
+asked-seen : (c : tie.After-overlaps) → overlaps (placed (shown-batch (c .before .before))) (query (shown-batch (c .before .before)) .view) ≡ c .overlaps .result
+asked-seen c = sym (c .overlaps .ensures ∙ ap (λ (b : WorldBBox). overlaps b (query (shown-batch (c .before .before)) .view)) (c .before .transform-bbox .ensures))
+
+-- the batch is in view
+abbrev seen-batch : tie.Else2 → tie.After-geometry-at
+seen-batch c = shown-batch (c .before .before .before)
+
+seen : (c : tie.Else2) → overlaps (placed (seen-batch c)) (query (seen-batch c) .view) ≡ true
+seen c = asked-seen (c .before) ∙ not-false _ (c .if2 .left)
+
+boxed : (c : tie.Else2) → c .before .before .transform-bbox .result ≡ placed (seen-batch c)
+boxed c = c .before .before .transform-bbox .ensures
+
+sized : (c : tie.After-screen-size) → screenSize (placed (seen-batch (c .before))) (query (seen-batch (c .before)) .zoom) ≡ c .screen-size .result
+sized c = sym (c .screen-size .ensures ∙ ap (λ (b : WorldBBox). screenSize b (query (seen-batch (c .before)) .zoom)) (boxed (c .before)))
+
+asked-small : (c : tie.After-is-subpixel) → isSubpixel (screenSize (placed (seen-batch (c .before .before))) (query (seen-batch (c .before .before)) .zoom)) ≡ c .is-subpixel .result
+asked-small c = ap isSubpixel (sized (c .before)) ∙ sym (c .is-subpixel .ensures)
+
+-- the batch is no speck
+abbrev in-view : tie.Else3 → tie.Else2
+in-view c = c .before .before .before
+
+large : (c : tie.Else3) → isSubpixel (screenSize (placed (seen-batch (in-view c))) (query (seen-batch (in-view c)) .zoom)) ≡ false
+large c = asked-small (c .before) ∙ c .if3 .left
+
+asked-dense : (c : tie.After-is-dense-batch) → let x = seen-batch (in-view (c .before)) in isDenseBatch (screenSize (placed x) (query x .zoom)) (x .geometry-at .result .«element_count») ≡ c .is-dense-batch .result
+asked-dense c =
+    ap (λ (z : ScreenSize). isDenseBatch z (seen-batch (in-view (c .before)) .geometry-at .result .«element_count»)) (sized (c .before .before .before))
+    ∙ sym (c .is-dense-batch .ensures)
+
+-- the batch is not dense
+abbrev not-small : tie.Else4 → tie.Else3
+not-small c = c .before .before
+
+sparse : (c : tie.Else4) → let x = seen-batch (in-view (not-small c)) in isDenseBatch (screenSize (placed x) (query x .zoom)) (x .geometry-at .result .«element_count») ≡ false
+sparse c = asked-dense (c .before) ∙ c .if4 .left
+
+asked-budget : (c : tie.After-detail-budget-exhausted) → let x = seen-batch (in-view (not-small (c .before))) in detailBudgetExhausted (query x) (start x .args .plan) ≡ c .detail-budget-exhausted .result
+asked-budget c =
+    let a = start (seen-batch (in-view (not-small (c .before)))) .args in
+    sym (c .detail-budget-exhausted .ensures (a .query) (now (a .hidden)))
+
+-- a proxy of the code's box is one of the placed box
+proxied : (c : tie.Else2) (m k : List ℕ) → addLoad noTag onTape tt noLabel (c .before .before .transform-bbox .result) (entered (seen-batch c) m k) ≡ addLoad noTag onTape tt noLabel (placed (seen-batch c)) (entered (seen-batch c) m k)
+proxied c m k = ap (λ (b : WorldBBox). addLoad noTag onTape tt noLabel b (entered (seen-batch c) m k)) (boxed c)
+
+-- ---- the ways out
+
 missing : tie.Need-returns
-missing c =
-    let at-find = c .before .before in
-    λ m k. sym (geometry-missing noTag onTape _ _ tt _ _ _ (item-read geometries _ _ (sym (at-find .find .ensures) ∙ c .enum-told .given .1)))
+missing c = λ m k. sym (geometry-missing noTag onTape _ _ tt _ _ _ (item-read geometries _ _ (sym (c .before .before .find .ensures) ∙ c .enum-told .given .1)))
 
 hidden : tie.Need-returns-2
-hidden c =
-    let at-is-hidden = c .before in
-    let at-geometry-at = at-is-hidden .before in
-    let at-at = at-geometry-at .before .before in
-    let at-find = at-at .before .before in
-    let start = at-find .before .before .before .before in
-    let a = start .args in
-    let there = item-read geometries _ _ (sym (at-find .find .ensures) ∙ at-at .at .given .1) ∙ ap some (sym (at-geometry-at .geometry-at .ensures)) in
-    λ m k. sym (geometry-hidden noTag onTape _ _ tt _ _ _ _ there (sym (at-is-hidden .is-hidden .ensures (a .query) (a .object-limit)) ∙ c .if1 .taken))
+hidden c = λ m k. sym (geometry-hidden noTag onTape _ _ tt _ _ _ _ (there (c .before .before)) (asked-hidden (c .before) ∙ c .if1 .taken))
 
 culled : tie.Need-returns-3
 culled c =
-    let at-if2 = c .before in
-    let at-overlaps = at-if2 .before in
-    let at-transform-bbox = at-overlaps .before in
-    let at-if1 = at-transform-bbox .before in
-    let at-is-hidden = at-if1 .before in
-    let at-geometry-at = at-is-hidden .before in
-    let at-at = at-geometry-at .before .before in
-    let at-find = at-at .before .before in
-    let start = at-find .before .before .before .before in
-    let a = start .args in
-    let there = item-read geometries _ _ (sym (at-find .find .ensures) ∙ at-at .at .given .1) ∙ ap some (sym (at-geometry-at .geometry-at .ensures)) in
-    let shown = sym (at-is-hidden .is-hidden .ensures (a .query) (a .object-limit)) ∙ at-if1 .if1 .left in
-    let box = at-transform-bbox .transform-bbox .ensures in
-    λ m k. c .count-culled-batch .ensures _ m k ∙ sym (geometry-culled noTag onTape _ _ tt _ _ _ _ there shown (sym (ap (λ (b : WorldBBox). overlaps b (a .query .view)) box) ∙ sym (at-overlaps .overlaps .ensures) ∙ not-true _ (at-if2 .if2 .taken)))
+    let asked = c .before .before in
+    let e1 = asked .before .before in
+    λ m k. c .count-culled-batch .ensures _ m k ∙ sym (geometry-culled noTag onTape _ _ tt _ _ _ _ (there (shown-batch e1)) (shown e1) (asked-seen asked ∙ not-true _ (c .before .if2 .taken)))
 
 skipped : tie.Need-returns-4
 skipped c =
-    let at-if3 = c .before in
-    let at-is-subpixel = at-if3 .before in
-    let at-screen-size = at-is-subpixel .before in
-    let at-if2 = at-screen-size .before in
-    let at-overlaps = at-if2 .before in
-    let at-transform-bbox = at-overlaps .before in
-    let at-if1 = at-transform-bbox .before in
-    let at-is-hidden = at-if1 .before in
-    let at-geometry-at = at-is-hidden .before in
-    let at-at = at-geometry-at .before .before in
-    let at-find = at-at .before .before in
-    let start = at-find .before .before .before .before in
-    let a = start .args in
-    let there = item-read geometries _ _ (sym (at-find .find .ensures) ∙ at-at .at .given .1) ∙ ap some (sym (at-geometry-at .geometry-at .ensures)) in
-    let shown = sym (at-is-hidden .is-hidden .ensures (a .query) (a .object-limit)) ∙ at-if1 .if1 .left in
-    let box = at-transform-bbox .transform-bbox .ensures in
-    let seen = sym (ap (λ (b : WorldBBox). overlaps b (a .query .view)) box) ∙ sym (at-overlaps .overlaps .ensures) ∙ not-false _ (at-if2 .if2 .left) in
-    let size = at-screen-size .screen-size .ensures ∙ ap (λ (b : WorldBBox). screenSize b (a .query .zoom)) box in
-    λ m k. c .count-skipped-batch .ensures _ _ m k ∙ sym (geometry-skipped noTag onTape _ _ tt _ _ _ _ there shown seen (sym (ap isSubpixel size) ∙ sym (at-is-subpixel .is-subpixel .ensures) ∙ at-if3 .if3 .taken))
+    let asked = c .before .before in
+    let e2 = asked .before .before in
+    λ m k. c .count-skipped-batch .ensures _ _ m k ∙ sym (geometry-skipped noTag onTape _ _ tt _ _ _ _ (there (seen-batch e2)) (shown (e2 .before .before .before)) (seen e2) (asked-small asked ∙ c .before .if3 .taken))
 
 dense : tie.Need-returns-5
 dense c =
-    let at-add-load = c .before .before in
-    let at-if4 = at-add-load .before .before in
-    let at-is-dense-batch = at-if4 .before in
-    let at-if3 = at-is-dense-batch .before in
-    let at-is-subpixel = at-if3 .before in
-    let at-screen-size = at-is-subpixel .before in
-    let at-if2 = at-screen-size .before in
-    let at-overlaps = at-if2 .before in
-    let at-transform-bbox = at-overlaps .before in
-    let at-if1 = at-transform-bbox .before in
-    let at-is-hidden = at-if1 .before in
-    let at-geometry-at = at-is-hidden .before in
-    let at-at = at-geometry-at .before .before in
-    let at-find = at-at .before .before in
-    let start = at-find .before .before .before .before in
-    let a = start .args in
-    let there = item-read geometries _ _ (sym (at-find .find .ensures) ∙ at-at .at .given .1) ∙ ap some (sym (at-geometry-at .geometry-at .ensures)) in
-    let shown = sym (at-is-hidden .is-hidden .ensures (a .query) (a .object-limit)) ∙ at-if1 .if1 .left in
-    let box = at-transform-bbox .transform-bbox .ensures in
-    let seen = sym (ap (λ (b : WorldBBox). overlaps b (a .query .view)) box) ∙ sym (at-overlaps .overlaps .ensures) ∙ not-false _ (at-if2 .if2 .left) in
-    let size = at-screen-size .screen-size .ensures ∙ ap (λ (b : WorldBBox). screenSize b (a .query .zoom)) box in
-    let large = sym (ap isSubpixel size) ∙ sym (at-is-subpixel .is-subpixel .ensures) ∙ at-if3 .if3 .left in
+    let added = c .before .before in
+    let asked = added .before .before .before in
+    let e3 = asked .before in
+    let e2 = in-view e3 in
     λ m k.
-    at-add-load .add-load .ensures m k
-    ∙ ap (λ (b : WorldBBox). addLoad noTag onTape tt noLabel b (world (a .plan) (now (a .out)) m k)) box
-    ∙ sym (geometry-dense noTag onTape _ _ tt _ _ _ _ there shown seen large (sym (ap (λ (z : ScreenSize). isDenseBatch z (at-geometry-at .geometry-at .result .«element_count»)) size) ∙ sym (at-is-dense-batch .is-dense-batch .ensures) ∙ at-if4 .if4 .taken))
+    added .add-load .ensures m k ∙ proxied e2 m k
+    ∙ sym (geometry-dense noTag onTape _ _ tt _ _ _ _ (there (seen-batch e2)) (shown (e2 .before .before .before)) (seen e2) (large e3) (asked-dense asked ∙ added .before .before .if4 .taken))
 
 exhausted : tie.Need-returns-6
 exhausted c =
-    let at-add-load2 = c .before .before in
-    let at-if5 = at-add-load2 .before .before in
-    let at-detail-budget-exhausted = at-if5 .before in
-    let at-if4 = at-detail-budget-exhausted .before in
-    let at-is-dense-batch = at-if4 .before in
-    let at-if3 = at-is-dense-batch .before in
-    let at-is-subpixel = at-if3 .before in
-    let at-screen-size = at-is-subpixel .before in
-    let at-if2 = at-screen-size .before in
-    let at-overlaps = at-if2 .before in
-    let at-transform-bbox = at-overlaps .before in
-    let at-if1 = at-transform-bbox .before in
-    let at-is-hidden = at-if1 .before in
-    let at-geometry-at = at-is-hidden .before in
-    let at-at = at-geometry-at .before .before in
-    let at-find = at-at .before .before in
-    let start = at-find .before .before .before .before in
-    let a = start .args in
-    let there = item-read geometries _ _ (sym (at-find .find .ensures) ∙ at-at .at .given .1) ∙ ap some (sym (at-geometry-at .geometry-at .ensures)) in
-    let shown = sym (at-is-hidden .is-hidden .ensures (a .query) (a .object-limit)) ∙ at-if1 .if1 .left in
-    let box = at-transform-bbox .transform-bbox .ensures in
-    let seen = sym (ap (λ (b : WorldBBox). overlaps b (a .query .view)) box) ∙ sym (at-overlaps .overlaps .ensures) ∙ not-false _ (at-if2 .if2 .left) in
-    let size = at-screen-size .screen-size .ensures ∙ ap (λ (b : WorldBBox). screenSize b (a .query .zoom)) box in
-    let large = sym (ap isSubpixel size) ∙ sym (at-is-subpixel .is-subpixel .ensures) ∙ at-if3 .if3 .left in
-    let sparse = sym (ap (λ (z : ScreenSize). isDenseBatch z (at-geometry-at .geometry-at .result .«element_count»)) size) ∙ sym (at-is-dense-batch .is-dense-batch .ensures) ∙ at-if4 .if4 .left in
+    let added = c .before .before in
+    let asked = added .before .before .before in
+    let e4 = asked .before in
+    let e3 = not-small e4 in
+    let e2 = in-view e3 in
     λ m k.
-    at-add-load2 .add-load2 .ensures m k
-    ∙ ap (λ (b : WorldBBox). addLoad noTag onTape tt noLabel b (world (a .plan) (now (a .out)) m k)) box
-    ∙ sym (geometry-exhausted noTag onTape _ _ tt _ _ _ _ there shown seen large sparse (sym (at-detail-budget-exhausted .detail-budget-exhausted .ensures (a .query) (now (a .hidden))) ∙ at-if5 .if5 .taken))
+    added .add-load2 .ensures m k ∙ proxied e2 m k
+    ∙ sym (geometry-exhausted noTag onTape _ _ tt _ _ _ _ (there (seen-batch e2)) (shown (e2 .before .before .before)) (seen e2) (large e3) (sparse e4) (asked-budget asked ∙ added .before .before .if5 .taken))
 
 listed : tie.Need-returns-7
 listed c =
-    let at-list-batch = c .before .before in
-    let at-if5 = at-list-batch .before .before in
-    let at-detail-budget-exhausted = at-if5 .before in
-    let at-if4 = at-detail-budget-exhausted .before in
-    let at-is-dense-batch = at-if4 .before in
-    let at-if3 = at-is-dense-batch .before in
-    let at-is-subpixel = at-if3 .before in
-    let at-screen-size = at-is-subpixel .before in
-    let at-if2 = at-screen-size .before in
-    let at-overlaps = at-if2 .before in
-    let at-transform-bbox = at-overlaps .before in
-    let at-if1 = at-transform-bbox .before in
-    let at-is-hidden = at-if1 .before in
-    let at-geometry-at = at-is-hidden .before in
-    let at-at = at-geometry-at .before .before in
-    let at-find = at-at .before .before in
-    let start = at-find .before .before .before .before in
-    let a = start .args in
-    let there = item-read geometries _ _ (sym (at-find .find .ensures) ∙ at-at .at .given .1) ∙ ap some (sym (at-geometry-at .geometry-at .ensures)) in
-    let shown = sym (at-is-hidden .is-hidden .ensures (a .query) (a .object-limit)) ∙ at-if1 .if1 .left in
-    let box = at-transform-bbox .transform-bbox .ensures in
-    let seen = sym (ap (λ (b : WorldBBox). overlaps b (a .query .view)) box) ∙ sym (at-overlaps .overlaps .ensures) ∙ not-false _ (at-if2 .if2 .left) in
-    let size = at-screen-size .screen-size .ensures ∙ ap (λ (b : WorldBBox). screenSize b (a .query .zoom)) box in
-    let large = sym (ap isSubpixel size) ∙ sym (at-is-subpixel .is-subpixel .ensures) ∙ at-if3 .if3 .left in
-    let sparse = sym (ap (λ (z : ScreenSize). isDenseBatch z (at-geometry-at .geometry-at .result .«element_count»)) size) ∙ sym (at-is-dense-batch .is-dense-batch .ensures) ∙ at-if4 .if4 .left in
-    λ m k. at-list-batch .list-batch .ensures m k ∙ sym (geometry-listed noTag onTape _ _ tt _ _ _ _ there shown seen large sparse (sym (at-detail-budget-exhausted .detail-budget-exhausted .ensures (a .query) (now (a .hidden))) ∙ at-if5 .if5 .left))
+    let put = c .before .before in
+    let asked = put .before .before .before in
+    let e4 = asked .before in
+    let e3 = not-small e4 in
+    let e2 = in-view e3 in
+    λ m k.
+    put .list-batch .ensures m k
+    ∙ sym (geometry-listed noTag onTape _ _ tt _ _ _ _ (there (seen-batch e2)) (shown (e2 .before .before .before)) (seen e2) (large e3) (sparse e4) (asked-budget asked ∙ put .before .before .if5 .left))
 
 pub push-geometry-spec : {M : Type 1} → statement M
 push-geometry-spec =

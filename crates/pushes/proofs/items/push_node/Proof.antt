@@ -1,6 +1,6 @@
 -- `pushes::push_node` meets its contract: one law of the rules for each way out.
 -- Assumes nothing.
-use mathlib.Core.Path.{_≡_, refl, sym, ap, _∙_}
+use mathlib.Core.Path.{sym, ap, _∙_}
 use denote.Ref.{now}
 use Rattle.records.specs.declared.PreparedNode.{PreparedNode}
 use Rattle.layout.specs.Sheet.{nodeRecordAt, nodes}

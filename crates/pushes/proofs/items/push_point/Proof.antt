@@ -1,15 +1,18 @@
 -- `pushes::push_point` meets its contract: one law of the rules for each way out.
 -- Assumes nothing.
-use mathlib.Core.Path.{_≡_, refl, sym, ap, ap₂, _∙_}
+use mathlib.Core.Path.{_≡_, sym, ap, ap₂, _∙_}
+use mathlib.Core.Bool.{true}
+use mathlib.Core.List.{List}
+use Prim.Native.Nat.{ℕ}
 use denote.Ref.{now}
 use borrow.Author.Tests.{not-true, not-false}
 use Rattle.geometry.specs.declared.placement.DVec2.{DVec2}
 use Rattle.geometry.specs.Placement.{transformPoint2}
 use Rattle.geometry.specs.Bbox.{pointInBbox}
 use Rattle.records.specs.declared.PreparedNode.{PreparedNode}
-use Rattle.layout.specs.Sheet.{nodeRecordAt}
+use Rattle.layout.specs.Sheet.{NodeRecord, nodeRecordAt}
 use Rattle.rules.specs.Event.{point}
-use Rattle.rules.specs.World.{world, go}
+use Rattle.rules.specs.World.{queryOf, detailBudgetExhausted, world, go}
 use Rattle.rules.specs.Push.{say}
 use Rattle.rules.specs.Tape.{noTag, onTape}
 use Rattle.rules.proofs.Paths.Pushes.{point-outside, point-exhausted, point-listed}
@@ -17,49 +20,55 @@ use borrow.Author.Needs.{needs}
 use Rattle.pushes.proofs.items.push_point.Statement.{statement}
 use Rattle.pushes.proofs.items.push_point.Tie as tie
 
-outside : tie.Need-returns
+-- ---- what is known, stated at the first place that knows it
+
+abbrev start : tie.After-node-point-at → tie.Start
+start c = c .before .before .before
+
+abbrev node : tie.After-node-point-at → NodeRecord
+node c = nodeRecordAt (now (start c .args .sheet)) (start c .args .at)
+
+placed : (c : tie.After-transform-point2) → c .transform-point2 .result ≡ transformPoint2 (start (c .before) .args .transform) (node (c .before) .point (start (c .before) .args .i))
 unfolding nodeRecordAt
-outside c =
-    let at-point-in-bbox = c .before in
-    let at-transform-point2 = at-point-in-bbox .before in
-    let at-node-point-at = at-transform-point2 .before in
-    let start = at-node-point-at .before .before .before in
-    let a = start .args in
-    let place = at-transform-point2 .transform-point2 .ensures ∙ ap (transformPoint2 (a .transform)) (at-node-point-at .node-point-at .ensures) in
-    λ hidden m k. sym (point-outside noTag onTape _ _ tt _ (nodeRecordAt (now (a .sheet)) (a .at)) (a .i) _ (sym (ap (λ (v : DVec2). pointInBbox v (a .query .view)) place) ∙ sym (at-point-in-bbox .point-in-bbox .ensures) ∙ not-true _ (c .if1 .taken)))
+placed c = c .transform-point2 .ensures ∙ ap (transformPoint2 (start (c .before) .args .transform)) (c .before .node-point-at .ensures)
+
+asked-inside : (c : tie.After-point-in-bbox) → let x = c .before .before in
+    pointInBbox (transformPoint2 (start x .args .transform) (node x .point (start x .args .i))) (start x .args .query .view) ≡ c .point-in-bbox .result
+asked-inside c = sym (c .point-in-bbox .ensures ∙ ap (λ (v : DVec2). pointInBbox v (start (c .before .before) .args .query .view)) (placed (c .before)))
+
+-- the point is in view
+inside : (c : tie.Else1) → let x = c .before .before .before in
+    pointInBbox (transformPoint2 (start x .args .transform) (node x .point (start x .args .i))) (start x .args .query .view) ≡ true
+inside c = asked-inside (c .before) ∙ not-false _ (c .if1 .left)
+
+asked-budget : (c : tie.After-detail-budget-exhausted) (hidden : List ℕ) → let a = start (c .before .before .before .before) .args in
+    detailBudgetExhausted (queryOf (a .query) hidden (a .object-limit)) (a .plan) ≡ c .detail-budget-exhausted .result
+asked-budget c hidden = sym (c .detail-budget-exhausted .ensures (start (c .before .before .before .before) .args .query) hidden)
+
+-- ---- the ways out
+
+outside : tie.Need-returns
+outside c = λ hidden m k. sym (point-outside noTag onTape _ _ tt _ (node (c .before .before .before)) _ _ (asked-inside (c .before) ∙ not-true _ (c .if1 .taken)))
 
 exhausted : tie.Need-returns-2
-unfolding nodeRecordAt
 exhausted c =
-    let at-detail-budget-exhausted = c .before in
-    let at-if1 = at-detail-budget-exhausted .before in
-    let at-point-in-bbox = at-if1 .before in
-    let at-transform-point2 = at-point-in-bbox .before in
-    let at-node-point-at = at-transform-point2 .before in
-    let start = at-node-point-at .before .before .before in
-    let a = start .args in
-    let place = at-transform-point2 .transform-point2 .ensures ∙ ap (transformPoint2 (a .transform)) (at-node-point-at .node-point-at .ensures) in
-    λ hidden m k. sym (point-exhausted noTag onTape _ _ tt _ (nodeRecordAt (now (a .sheet)) (a .at)) (a .i) _ (sym (ap (λ (v : DVec2). pointInBbox v (a .query .view)) place) ∙ sym (at-point-in-bbox .point-in-bbox .ensures) ∙ not-false _ (at-if1 .if1 .left)) (sym (at-detail-budget-exhausted .detail-budget-exhausted .ensures (a .query) hidden) ∙ c .if2 .taken))
+    let e1 = c .before .before in
+    λ hidden m k. sym (point-exhausted noTag onTape _ _ tt _ (node (e1 .before .before .before)) _ _ (inside e1) (asked-budget (c .before) hidden ∙ c .if2 .taken))
 
 listed : tie.Need-returns-3
 unfolding nodeRecordAt
 listed c =
-    let at-list-point = c .before .before in
-    let at-node-at = at-list-point .before .before in
-    let at-if2 = at-node-at .before in
-    let at-detail-budget-exhausted = at-if2 .before in
-    let at-if1 = at-detail-budget-exhausted .before in
-    let at-point-in-bbox = at-if1 .before in
-    let at-transform-point2 = at-point-in-bbox .before in
-    let at-node-point-at = at-transform-point2 .before in
-    let start = at-node-point-at .before .before .before in
-    let a = start .args in
-    let place = at-transform-point2 .transform-point2 .ensures ∙ ap (transformPoint2 (a .transform)) (at-node-point-at .node-point-at .ensures) in
+    let put = c .before .before in
+    let read = put .before .before in
+    let asked = read .before .before in
+    let e1 = asked .before in
+    let x = e1 .before .before .before in
+    let a = start x .args in
     λ hidden m k.
     ap go
-    (at-list-point .list-point .ensures m k
-    ∙ ap₂ (λ (x : PreparedNode) (v : DVec2). say noTag onTape tt (point (x .layer) (x .«node_type») v) (world (a .plan) (now (a .out)) m k)) (at-node-at .node-at .ensures) place)
-    ∙ sym (point-listed noTag onTape _ _ tt _ (nodeRecordAt (now (a .sheet)) (a .at)) (a .i) _ (sym (ap (λ (v : DVec2). pointInBbox v (a .query .view)) place) ∙ sym (at-point-in-bbox .point-in-bbox .ensures) ∙ not-false _ (at-if1 .if1 .left)) (sym (at-detail-budget-exhausted .detail-budget-exhausted .ensures (a .query) hidden) ∙ at-if2 .if2 .left))
+    (put .list-point .ensures m k
+    ∙ ap₂ (λ (x : PreparedNode) (v : DVec2). say noTag onTape tt (point (x .layer) (x .«node_type») v) (world (a .plan) (now (a .out)) m k)) (read .node-at .ensures) (placed (e1 .before .before)))
+    ∙ sym (point-listed noTag onTape _ _ tt _ (node x) (a .i) _ (inside e1) (asked-budget asked hidden ∙ read .before .if2 .left))
 
 pub push-point-spec : {M : Type 1} → statement M
 push-point-spec =

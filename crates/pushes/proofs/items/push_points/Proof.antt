@@ -6,7 +6,6 @@ use Prim.Native.Nat.{ℕ, _-_, _≤_}
 use native.Mathlib.Omega.{arith}
 use lib.ListN.{length}
 use borrow.Author.Tests.{not-true, not-false}
-use denote.Ref.{now}
 use mathlib.Core.Bool.{Bool}
 use Rattle.records.specs.declared.PreparedNode.{PreparedNode}
 use Rattle.layout.specs.Sheet.{sheetOf, nodeRecordAt}

@@ -1,13 +1,13 @@
 // The loops of `visit_cell` over the batches, texts and nodes of the cell at an offset.
 // At an exhausted budget the cell's box is added, if it has one, and the visit is over.
-use crate::Visited;
-use crate::items::push_geometry;
-use crate::items::push_node;
-use crate::items::push_text;
-use crate::limits::detail_budget_exhausted;
-use crate::load::add_load_if_boxed;
 use geometry::bbox::Bounds;
 use geometry::placement::Placement;
+use pushes::Visited;
+use pushes::add_load_if_boxed;
+use pushes::detail_budget_exhausted;
+use pushes::push_geometry;
+use pushes::push_node;
+use pushes::push_text;
 use rules::SceneOptions;
 use rules::ScenePlan;
 ghost use mathlib.Core.Path.{_≡_};
