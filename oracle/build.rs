@@ -2,6 +2,8 @@
 //! instrumented, one with all planted mistakes, each behind a switch. Every piece and edit is asserted.
 //! The seed is found by GDSR_SOURCE, else at ../../shared/docs/src beside the repository. Where it is absent the
 //! build goes on without a planner, and every subcommand that plans says so.
+//! With the feature `library` the static libraries of the Rattle planner are linked, from RIBALTZEN_LIBRARY or else
+//! from ../target/staticlib, where `rt staticlib` writes them.
 
 #[allow(dead_code)]
 #[path = "src/edits/mod.rs"]
@@ -49,6 +51,21 @@ fn main() {
     };
     let out = PathBuf::from(env::var("OUT_DIR").unwrap()).join("variants.rs");
     fs::write(out, generated).unwrap();
+    if env::var_os("CARGO_FEATURE_LIBRARY").is_some() {
+        link_library(&package);
+    }
+}
+
+/// The planner, and the check of a sheet alone, which `race` times apart.
+fn link_library(package: &Path) {
+    println!("cargo::rerun-if-env-changed=RIBALTZEN_LIBRARY");
+    let folder = env::var("RIBALTZEN_LIBRARY")
+        .map_or_else(|_| package.join("../target/staticlib"), PathBuf::from);
+    println!("cargo::rustc-link-search=native={}", folder.display());
+    for name in ["planner_c", "sheet_c"] {
+        println!("cargo::rerun-if-changed={}", folder.join(format!("lib{name}.a")).display());
+        println!("cargo::rustc-link-lib=static={name}");
+    }
 }
 
 fn without_seed() -> String {

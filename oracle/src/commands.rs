@@ -17,17 +17,22 @@ use crate::variants::{JUDGE, checked};
 /// Steps that a fresh case may take; a hostile one is passed over.
 const FUEL: u64 = 5_000_000;
 
-/// The answer to a fresh case, unless it takes too long. Any other panic goes on.
-fn fresh(family: &Family, seed: u64) -> Option<(Vec<u8>, Outcome)> {
-    let input = make(family, seed);
+/// What a run gives, unless it takes too long. Any other panic goes on.
+pub fn bounded<T>(run: impl FnOnce() -> T) -> Option<T> {
     set_fuel(FUEL);
-    let result = catch_unwind(AssertUnwindSafe(|| answer(&input)));
+    let result = catch_unwind(AssertUnwindSafe(run));
     set_fuel(u64::MAX);
     match result {
-        Ok(outcome) => Some((input, outcome)),
+        Ok(value) => Some(value),
         Err(panic) if panic.is::<OutOfFuel>() => None,
         Err(panic) => resume_unwind(panic),
     }
+}
+
+/// The answer to a fresh case, unless it takes too long.
+fn fresh(family: &Family, seed: u64) -> Option<(Vec<u8>, Outcome)> {
+    let input = make(family, seed);
+    bounded(|| answer(&input)).map(|outcome| (input, outcome))
 }
 
 /// Fresh cases of every family, both copies checked against each other on each: cases run and passed over.

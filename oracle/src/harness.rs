@@ -1,8 +1,7 @@
 //! Differential runs at the level of one call: the answer, and every lent byte after it.
 //!
-//! A planner under test is a `Subject`. To plug in the planner's static library, write a `Subject` whose `plan` calls
-//! its exported function through `extern "C"` on the slices as they are lent here, link it in build.rs, and hand it to
-//! `run` in place of `Oracle`: 10^6 cases then run in one process.
+//! A planner under test is a `Subject`: the judge itself, with a planted mistake or without, or the static library of
+//! the Rattle planner (`library.rs`), which `differential.rs` runs over every family.
 
 use std::collections::BTreeMap;
 
@@ -64,7 +63,7 @@ pub struct Tally {
 }
 
 /// A size at or around the one that is needed.
-fn around(rng: &mut Rng, needed: usize) -> usize {
+pub fn around(rng: &mut Rng, needed: usize) -> usize {
     match rng.below(8) {
         0 => needed.saturating_sub(1),
         1 => needed + 1,
@@ -75,7 +74,7 @@ fn around(rng: &mut Rng, needed: usize) -> usize {
 }
 
 /// Memory of those sizes, filled so that each place can be told from zero and from its neighbour.
-fn lend(rng: &mut Rng, output: usize, counts: usize, marks: usize) -> Lent {
+pub fn lend(rng: &mut Rng, output: usize, counts: usize, marks: usize) -> Lent {
     Lent {
         output: (0..output).map(|_| rng.next() as u8 | 1).collect(),
         counts: (0..counts).map(|_| rng.next() | 1).collect(),
@@ -96,7 +95,7 @@ fn difference(answers: (Answer, Answer), after: (&Lent, &Lent)) -> Option<String
 
 /// Document 01's sentences on memory, said of the subject's call by themselves. `needed` are the tape's bytes, the
 /// counts and the marks that an accepted sheet and query call for; none where questions 1 to 10 refuse.
-fn is_as_stated(answer: Answer, before: &Lent, after: &Lent, needed: Option<(usize, usize, usize)>) -> bool {
+pub fn is_as_stated(answer: Answer, before: &Lent, after: &Lent, needed: Option<(usize, usize, usize)>) -> bool {
     let Some((tape, counts, marks)) = needed else {
         return (1..=10).contains(&answer.number) && after == before;
     };

@@ -9,12 +9,18 @@ mod brute;
 mod checksum;
 mod commands;
 mod coverage;
+#[cfg(feature = "library")]
+mod differential;
 mod edits;
 mod events;
 mod generator;
 mod harness;
 mod judge;
+#[cfg(feature = "library")]
+mod library;
 mod planted;
+#[cfg(feature = "library")]
+mod race;
 mod readings;
 mod sheet;
 mod stored;
@@ -27,7 +33,8 @@ use std::process::exit;
 
 const USAGE: &str = "oracle COMMAND: plan [BUFFER] | planted-plan NUMBER | edits | mistakes | coverage EACH [SEED] |
   cases EACH [SEED] | large NUMBER | store | verify | replay | choose SEEDS | planted | cover COUNT [SEED] |
-  memory COUNT [SEED] | timings | quick";
+  memory COUNT [SEED] | timings | quick
+  with the feature `library`: differential COUNT [SEED] | files FOLDER | race [ROUNDS]";
 
 fn stored_folder() -> PathBuf {
     Path::new(env!("CARGO_MANIFEST_DIR")).join("stored")
@@ -74,6 +81,16 @@ fn main() {
         "cover" => cover(number(2, 0), number(1, 1_000)),
         "memory" => memory(number(2, 0), number(1, 1_000)),
         "timings" => timing::run(),
+        #[cfg(feature = "library")]
+        "differential" => judge_library(|subject, folder| {
+            differential::run(subject, number(1, 10_000), number(2, 0), folder)
+        }),
+        #[cfg(feature = "library")]
+        "files" => judge_library(|subject, folder| {
+            differential::run_files(subject, Path::new(&arguments[1]), folder)
+        }),
+        #[cfg(feature = "library")]
+        "race" => race::run(number(1, 15) as usize),
         "quick" => quick(&folder),
         _ => {
             eprintln!("{USAGE}");
@@ -121,6 +138,16 @@ fn memory(seed: u64, count: u64) {
         println!("first fault: {first}");
     }
     verdict(((tally.calls - tally.broken) as usize, tally.broken as usize));
+}
+
+/// The static library against the judge.
+#[cfg(feature = "library")]
+fn judge_library(run: impl FnOnce(&mut dyn harness::Subject, &Path) -> differential::Report) {
+    let folder = Path::new(env!("CARGO_MANIFEST_DIR")).join("target/differential");
+    let report = run(&mut library::Library, &folder);
+    print!("{}", report.table());
+    println!("{} calls; tapes alike but for signs of zero: {}", report.calls, report.zeros);
+    verdict(((report.calls - report.differences) as usize, report.differences as usize));
 }
 
 /// The quick tests: both copies on fresh cases, stored answers, planted mistakes, brute force, memory.

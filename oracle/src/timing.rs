@@ -12,7 +12,7 @@ use crate::variants::copies;
 
 const RUNS: usize = 15;
 
-const SHEETS: [Large; 5] = [
+pub const SHEETS: [Large; 5] = [
     Large { name: "city", seed: 20_000, make: city },
     Large { name: "city", seed: 110_000, make: city },
     Large { name: "street", seed: 40_000, make: street },

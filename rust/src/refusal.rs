@@ -1,0 +1,56 @@
+//! A refusal: the number of the first question that was answered "no", and where.
+
+use std::fmt;
+
+/// Numbers 2 to 6 have the offset of the record in the sheet, the others 0.
+#[derive(Clone, Copy, Debug, PartialEq, Eq)]
+pub struct Refusal {
+    pub number: u32,
+    pub offset: usize,
+}
+
+impl Refusal {
+    /// Document 01's question.
+    pub fn question(&self) -> &'static str {
+        match self.number {
+            1 => "Is the sheet at most 16,777,216 bytes?",
+            2 => "Are 6 bytes left, and is the length at least 6 and within the sheet?",
+            3 => "Is the kind 1 to 5 and the length right for it, a cell's counts included?",
+            4 => {
+                "Are columns and rows at most 32,767, spare flag bits zero, absent boxes zero, the source kind 1 to 5, \
+                 and a cell source below FFFFFFFF (hexadecimal)?"
+            }
+            5 => "Is every float finite?",
+            6 => {
+                "Does every number in a cell, and every source but a cell source, name an existing record, and a \
+                 reference source an earlier one?"
+            }
+            7 => "Are there at most 4,096 cells?",
+            8 => "Is the view finite, min at most max?",
+            9 => "Is zoom finite and above 0?",
+            10 => "Is depth at most 32?",
+            11 => {
+                "Has the counts scratch cells × depth 64-bit places, and the marks scratch cells × (depth + 2) bytes?"
+            }
+            12 => "Does the whole tape fit the lent output?",
+            _ => "A question that this version does not know.",
+        }
+    }
+
+    /// Whether the offset is that of a record.
+    pub fn is_of_a_record(&self) -> bool {
+        (2..=6).contains(&self.number)
+    }
+}
+
+impl fmt::Display for Refusal {
+    fn fmt(&self, f: &mut fmt::Formatter) -> fmt::Result {
+        write!(f, "refused with number {}", self.number)?;
+        if self.is_of_a_record() {
+            write!(f, " at the record at byte {}", self.offset)?;
+        }
+        write!(f, ": {} No.", self.question())
+    }
+}
+
+impl std::error::Error for Refusal {}
