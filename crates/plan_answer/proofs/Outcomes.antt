@@ -1,0 +1,123 @@
+-- Which answer an outcome tells of: a refusal's number is not 0, a plan's tape is not empty, and it lies within the lent output.
+-- Assumes nothing.
+use mathlib.Core.Path.{_≡_, refl, sym, ap, _∙_}
+use mathlib.Core.Bool.{Bool, true, false, cond, _&&_}
+use mathlib.Core.List.{List, [], _∷_, _++_}
+use Prim.Native.Nat.{ℕ, _+_, _≤_, _<_}
+use native.Mathlib.Omega.{arith}
+use lib.ListN.{length, drop, replicate, length-append}
+use lib.Dec.{leb, eqb}
+use borrow.Author.Tests.{eqb-false}
+use Rattle.fields.specs.Field.{widths, recordBytes}
+use Rattle.fields.specs.Writing.{length-recordBytes}
+use Rattle.walk.specs.Offsets.{kindAt, offsets}
+use Rattle.walk.specs.Find.{countOf}
+use Rattle.questions.specs.Record.{recordNo}
+use Rattle.layout.specs.Sheet.{Sheet, sheetOf}
+use Rattle.sheet.specs.declared.Counts.{Counts}
+use Rattle.sheet.specs.declared.Checked.{Checked}
+use Rattle.sheet.specs.declared.Checked.the-variants as checked
+use Rattle.sheet.specs.Count.{countsOf, tallied}
+use Rattle.sheet.specs.Links.{linkOk}
+use Rattle.sheet.specs.Check.{firstNo, firstUnnamed, checkSheet}
+use Rattle.rules.specs.declared.Answer.the-variants.{Planned, Refused}
+use Rattle.rules.specs.declared.ScenePlan.{ScenePlan}
+use Rattle.rules.specs.Limits.{maxDepth}
+use Rattle.rules.specs.Event.{Event, emptyPlan, totals}
+use Rattle.rules.specs.World.{Query, world}
+use Rattle.rules.specs.Scratch.{countsNamed, marksNamed}
+use Rattle.rules.specs.Push.{say}
+use Rattle.rules.specs.Plan.{visitRoot, plan}
+use Rattle.rules.specs.Tape.{encode, fieldsOf, noTag, note, tape}
+use Rattle.rules.specs.Outcome.{Outcome, outcome, viewOk, zoomOk, freshPlan, tapeOf, zeroed, delivered, soundOutcome, checkedOutcome, outcomeOf}
+
+-- ---- a sheet's refusal has a number
+
+data Numbered : Checked → Type 0 where
+  sound : {counts : Counts} → Numbered (checked.Sound counts)
+  refused : {number offset : ℕ} → 0 < number → Numbered (checked.Refused number offset)
+
+numbered-if : (b : Bool) {x y : Checked} → Numbered x → (b ≡ false → Numbered y) → Numbered (cond b x y)
+numbered-if true p q = p
+numbered-if false p q = q refl
+
+module _ (s : List ℕ) where
+  first-no : (xs : List ℕ) (later : Checked) → Numbered later → Numbered (firstNo s xs later)
+  unfolding firstNo
+  first-no [] later p = p
+  first-no (at ∷ xs) later p =
+      numbered-if (eqb (recordNo s at) 0) (first-no xs later p) (λ e. refused (omega (arith, eqb-false (recordNo s at) 0 e)))
+
+  first-unnamed : (c : Counts) (own : ℕ) (xs : List ℕ) (later : Checked) → Numbered later → Numbered (firstUnnamed s c own xs later)
+  unfolding firstUnnamed
+  first-unnamed c own [] later p = p
+  first-unnamed c own (at ∷ xs) later p =
+      numbered-if (linkOk s c own at) (first-unnamed c (tallied own (kindAt s at) 4) xs later p) (λ e. refused (omega arith))
+
+  sheet-numbered : Numbered (checkSheet s)
+  unfolding checkSheet
+  sheet-numbered =
+      numbered-if (leb (length s) 16777216)
+      (first-no (offsets s) _ (numbered-if (leb (countOf s 5) 4096) (first-unnamed (countsOf s) 0 (offsets s) _ sound) (λ e. refused (omega arith))))
+      (λ e. refused (omega arith))
+
+-- ---- a tape is not empty: it ends with its totals
+
+length-totals : (s : ScenePlan) → length (encode (totals s)) ≡ 54
+unfolding encode widths
+length-totals s = length-recordBytes (fieldsOf (totals s))
+
+tape-ends : (l : List (Unit {0} × Event)) (s : ScenePlan) → 0 < length (tape ((tt, totals s) ∷ l))
+tape-ends l s = omega (arith, length-append (tape l) (encode (totals s)), length-totals s)
+
+tape-not-empty : (S : Sheet) (cells : ℕ) (q : Query) → 0 < length (tapeOf S cells q)
+unfolding tapeOf freshPlan plan say
+tape-not-empty S cells q =
+    let v = visitRoot noTag note S cells q (q .depth) tt (world emptyPlan [] (replicate (marksNamed cells (q .depth)) 0) (replicate (countsNamed cells (q .depth)) 0)) in
+    tape-ends (v .out) (v .state)
+
+-- ---- outcomes
+
+pub record Told (c : Outcome) : Type 0 where
+  pub planned : c .number ≡ 0 → 0 < c .tapeLength
+  pub within : c .tapeLength ≤ length (c .out)
+
+told-if : (b : Bool) {x y : Outcome} → Told x → Told y → Told (cond b x y)
+told-if true p q = p
+told-if false p q = q
+
+told-refused : (number offset : ℕ) (o k m : List ℕ) → 0 < number → Told (outcome (Refused number offset) o k m)
+told-refused number offset o k m h = record { planned = λ e. absurd (omega arith); within = omega arith }
+
+module _ (S : Sheet) (cells : ℕ) (q : Query) (o k m : List ℕ) where
+  abbrev nk : ℕ
+  nk = countsNamed cells (q .depth)
+
+  abbrev nm : ℕ
+  nm = marksNamed cells (q .depth)
+
+  told-delivered : Told (delivered (tapeOf S cells q) nk nm o k m)
+  unfolding delivered
+  told-delivered =
+      told-if (leb (length (tapeOf S cells q)) (length o))
+      (record { planned = λ e. tape-not-empty S cells q; within = omega (arith, length-append (tapeOf S cells q) (drop (length (tapeOf S cells q)) o)) })
+      (told-refused 12 0 _ _ _ (omega arith))
+
+  told-sound : Told (soundOutcome S cells q o k m)
+  unfolding soundOutcome
+  told-sound =
+      told-if (viewOk (q .view))
+      (told-if (zoomOk (q .zoom))
+      (told-if (leb (q .depth) maxDepth)
+      (told-if (leb nk (length k) && leb nm (length m)) told-delivered (told-refused 11 0 o k m (omega arith)))
+      (told-refused 10 0 o k m (omega arith)))
+      (told-refused 9 0 o k m (omega arith)))
+      (told-refused 8 0 o k m (omega arith))
+
+told-checked : (c : Checked) (S : Sheet) (q : Query) (o k m : List ℕ) → Numbered c → Told (checkedOutcome c S q o k m)
+told-checked (checked.Refused number offset) S q o k m (refused h) = told-refused number offset o k m h
+told-checked (checked.Sound counts) S q o k m h = told-sound S (counts .cells) q o k m
+
+pub told : (s : List ℕ) (q : Query) (o k m : List ℕ) → Told (outcomeOf s q o k m)
+unfolding outcomeOf
+told s q o k m = told-checked (checkSheet s) (sheetOf s) q o k m (sheet-numbered s)

@@ -1,0 +1,36 @@
+-- `plan_answer::print::print_answer` is safe and ends: every part goes further. The loop's invariant: the lent text keeps its length.
+-- Assumes nothing.
+use mathlib.Core.Path.{_≡_, refl}
+use Prim.Native.Nat.{_-_}
+use native.Mathlib.Omega.{arith}
+use lib.ListN.{length}
+use borrow.Author.Needs.{needs}
+use Rattle.plan_answer.proofs.print.print_answer.Statement.{statement}
+use Rattle.plan_answer.proofs.print.print_answer.Tie as tie
+
+abbrev Inv-loop : tie.InvT-loop
+Inv-loop text₀ printed tape end at₀ text at = length text ≡ length text₀
+
+abbrev μ-loop : tie.MeasureT-loop
+μ-loop text₀ printed tape end at₀ text at = end - at
+
+part-requires : tie.Need-put-part-requires Inv-loop μ-loop
+part-requires c κs = (omega arith, (omega arith, omega arith))
+
+prefix : tie.Need-slice-reshare-prefix-write-all Inv-loop μ-loop
+prefix c = c .before .before .put-part .ensures .within
+
+prefix-length : tie.Need-slice-aggregate-write-all Inv-loop μ-loop
+prefix-length c = c .before .before .before .put-part .ensures .counts
+
+goes-further : tie.Need-loop-less Inv-loop μ-loop
+goes-further c = omega (arith, c .before .before .before .before .put-part .ensures .goes)
+
+loop-again : tie.Need-loop-again Inv-loop μ-loop
+loop-again c = search needs
+
+pub print-answer-spec : {M : Type 1} → statement M
+print-answer-spec =
+    tie.close
+    (tie.spec Inv-loop μ-loop (λ c κs. search needs) (λ c. refl) part-requires prefix prefix-length (λ c κs. search needs)
+    goes-further loop-again (λ c. search needs) (λ c. tt))

@@ -1,0 +1,52 @@
+-- What an input is answered, and what stands in every lent place after it: the contracts equate a call to these definitions.
+-- Definitions only; rests on plan_text's reading of the query and the rules' outcome of a call.
+use mathlib.Core.Bool.{cond}
+use mathlib.Core.List.{List}
+use Prim.Native.Nat.{ℕ}
+use lib.ListN.{length, take, drop}
+use lib.Dec.{leb}
+use Rattle.plan_text.specs.declared.query.QueryRecord.{QueryRecord}
+use Rattle.plan_text.specs.declared.query.FirstRecord.{FirstRecord}
+use Rattle.plan_text.specs.declared.query.FirstRecord.the-variants as first
+use Rattle.plan_text.specs.Query.{readQuery}
+use Rattle.rules.specs.Limits.{maxSceneObjects}
+use Rattle.rules.specs.World.{queryOf}
+use Rattle.rules.specs.Outcome.{Outcome, outcomeOf}
+use Rattle.plan_answer.specs.declared.Printed.{Printed}
+use Rattle.plan_answer.specs.Text.{outcomeText, noQueryLine, tooLongLine, textFrom}
+
+-- the whole text, and the lent hidden layers, tape, counts and marks
+pub record Said : Type 0 where
+  pub text : List ℕ
+  pub hidden : List ℕ
+  pub tape : List ℕ
+  pub counts : List ℕ
+  pub marks : List ℕ
+
+-- what a call answered and left
+abbrev pub said : Printed → List ℕ → List ℕ → List ℕ → List ℕ → Said
+said r h o k m = record { text = textFrom r o 0; hidden = h; tape = o; counts = k; marks = m }
+
+abbrev pub saidOfOutcome : Outcome → List ℕ → Said
+saidOfOutcome c h = record { text = outcomeText c; hidden = h; tape = c .out; counts = c .counts; marks = c .marks }
+
+-- "reads one query .. and then the sheet"
+unfoldable pub saidOfQuery : List ℕ → QueryRecord → List ℕ → List ℕ → List ℕ → List ℕ → Said
+saidOfQuery s q h o k m = saidOfOutcome (outcomeOf (drop (q .sheet) s) (queryOf (q .options) (take (q .hidden) h) maxSceneObjects) o k m) h
+
+-- a line, and nothing touched but the hidden layers
+abbrev pub saidLine : List ℕ → List ℕ → List ℕ → List ℕ → List ℕ → Said
+saidLine line h o k m = record { text = line; hidden = h; tape = o; counts = k; marks = m }
+
+-- by what the input begins with, and the hidden layers that were read
+abbrev pub saidOfFirst : List ℕ → FirstRecord × List ℕ → List ℕ → List ℕ → List ℕ → Said
+saidOfFirst s (first.Query q, h) o k m = saidOfQuery s q h o k m
+saidOfFirst s (first.NoQuery, h) o k m = saidLine noQueryLine h o k m
+saidOfFirst s (first.TooLong, h) o k m = saidLine tooLongLine h o k m
+
+unfoldable pub saidOf : List ℕ → List ℕ → List ℕ → List ℕ → List ℕ → Said
+saidOf s h o k m = saidOfFirst s (readQuery s h) o k m
+
+-- an input that was read into a buffer: "Input beyond the program's buffers .. prints `too long` before all else"
+unfoldable pub saidOfRead : List ℕ → ℕ → List ℕ → List ℕ → List ℕ → List ℕ → Said
+saidOfRead b size h o k m = cond (leb (length b) size) (saidLine tooLongLine h o k m) (saidOf (take size b) h o k m)

@@ -1,0 +1,48 @@
+-- The text of an answer. Document 01: "All it prints", "A refusal prints `refused`, number, offset. A first record that is no whole query
+-- prints `no query`. Input beyond the program's buffers, whose sizes docs/ gives, prints `too long` before all else."
+-- Definitions only; rests on plan_text's lines and the rules' outcome.
+use mathlib.Core.Bool.{cond}
+use mathlib.Core.List.{List, []}
+use Prim.Native.Nat.{ℕ}
+use lib.ListN.{take}
+use lib.Dec.{eqb}
+use Rattle.plan_text.specs.Ascii.{ascii}
+use Rattle.plan_text.specs.Text.{refusedLine, linesFrom}
+use Rattle.rules.specs.Outcome.{Outcome}
+use Rattle.plan_answer.specs.declared.Printed.{Printed}
+use Rattle.plan_answer.specs.declared.Printed.the-variants.{Tape, Refused, NoQuery, TooLong}
+
+abbrev pub noQueryLine : List ℕ
+noQueryLine = ascii "no query\n"
+
+abbrev pub tooLongLine : List ℕ
+tooLongLine = ascii "too long\n"
+
+-- the text of a call's outcome: a plan's tape is never empty, and a refusal has none
+unfoldable pub outcomeText : Outcome → List ℕ
+outcomeText c = cond (eqb (c .tapeLength) 0) (refusedLine (c .number) (c .offset)) (linesFrom (take (c .tapeLength) (c .out)) 0)
+
+-- how many bytes of the tape an answer names
+abbrev pub tapeEnd : Printed → ℕ
+tapeEnd (Tape length) = length
+tapeEnd (Refused number offset) = 0
+tapeEnd NoQuery = 0
+tapeEnd TooLong = 0
+
+-- Places of a text: offsets of the tape, or 0 and 1, before and behind the one line. Where the text ends:
+abbrev pub textEnd : Printed → ℕ
+textEnd (Tape length) = length
+textEnd (Refused number offset) = 1
+textEnd NoQuery = 1
+textEnd TooLong = 1
+
+-- one line, from a place on
+unfoldable pub lineFrom : List ℕ → ℕ → List ℕ
+lineFrom line at = cond (eqb at 0) line []
+
+-- the text of an answer, from a place on
+abbrev pub textFrom : Printed → List ℕ → ℕ → List ℕ
+textFrom (Tape length) tape at = linesFrom (take length tape) at
+textFrom (Refused number offset) tape at = lineFrom (refusedLine number offset) at
+textFrom NoQuery tape at = lineFrom noQueryLine at
+textFrom TooLong tape at = lineFrom tooLongLine at

@@ -1,0 +1,77 @@
+// The answer to an input: a query, and then the sheet.
+use crate::Printed;
+use plan_text::FirstRecord;
+use plan_text::QueryRecord;
+use rules::Answer;
+ghost use mathlib.Core.Path.{_≡_};
+ghost use Prim.Native.Nat.{_≤_};
+ghost use lib.ListN.{length};
+ghost use Rattle.plan_answer.specs.Text.{tapeEnd};
+ghost use Rattle.plan_answer.specs.Said.{said, saidOfQuery, saidOf, saidOfRead};
+
+// Plans the sheet behind the query.
+fn plan_query(
+    input: &[u8],
+    query: QueryRecord,
+    hidden: &[u32],
+    tape: &mut [u8],
+    counts: &mut [u64],
+    marks: &mut [u8],
+) -> Printed
+    requires { ⌜ query .sheet ≤ length (now input) ⌝ }
+    requires { ⌜ query .hidden ≤ length (now hidden) ⌝ }
+    ensures { λ r. ⌜ said r (now (hidden .entry)) (now (tape .exit)) (now (counts .exit)) (now (marks .exit)) ≡ saidOfQuery (now (input .entry)) query (now (hidden .entry)) (now (tape .entry)) (now (counts .entry)) (now (marks .entry)) ⌝ }
+    ensures { λ r. ⌜ tapeEnd r ≤ length (now (tape .exit)) ⌝ }
+{
+    let sheet = query.sheet;
+    let layers = query.hidden;
+    let options = query.options;
+    match planner::plan(
+        &input[sheet..],
+        options,
+        &hidden[..layers],
+        tape,
+        counts,
+        marks,
+    ) {
+        Answer::Planned(length) => Printed::Tape(length),
+        Answer::Refused(number, offset) => Printed::Refused(number, offset),
+    }
+}
+
+// The answer to an input, its tape left at the start of the lent one.
+pub fn answer(
+    input: &[u8],
+    hidden: &mut [u32],
+    tape: &mut [u8],
+    counts: &mut [u64],
+    marks: &mut [u8],
+) -> Printed
+    ensures { λ r. ⌜ said r (now (hidden .exit)) (now (tape .exit)) (now (counts .exit)) (now (marks .exit)) ≡ saidOf (now (input .entry)) (now (hidden .entry)) (now (tape .entry)) (now (counts .entry)) (now (marks .entry)) ⌝ }
+    ensures { λ r. ⌜ tapeEnd r ≤ length (now (tape .exit)) ⌝ }
+{
+    let first = plan_text::read_query(input, hidden);
+    match first {
+        FirstRecord::Query(query) => plan_query(input, query, hidden, tape, counts, marks),
+        FirstRecord::NoQuery => Printed::NoQuery,
+        FirstRecord::TooLong => Printed::TooLong,
+    }
+}
+
+// The answer to the first `size` bytes of a buffer. An input that fills the buffer may not be whole.
+pub fn answer_read(
+    buffer: &[u8],
+    size: usize,
+    hidden: &mut [u32],
+    tape: &mut [u8],
+    counts: &mut [u64],
+    marks: &mut [u8],
+) -> Printed
+    ensures { λ r. ⌜ said r (now (hidden .exit)) (now (tape .exit)) (now (counts .exit)) (now (marks .exit)) ≡ saidOfRead (now (buffer .entry)) size (now (hidden .entry)) (now (tape .entry)) (now (counts .entry)) (now (marks .entry)) ⌝ }
+    ensures { λ r. ⌜ tapeEnd r ≤ length (now (tape .exit)) ⌝ }
+{
+    if buffer.len() <= size {
+        return Printed::TooLong;
+    }
+    answer(&buffer[..size], hidden, tape, counts, marks)
+}

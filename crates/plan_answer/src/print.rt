@@ -1,0 +1,24 @@
+// The text of an answer, printed. No contract can say what the system writes; what is written is what `put_part` puts.
+use crate::Printed;
+use crate::part::put_part;
+use crate::part::text_end;
+use libc::STDOUT_FILENO;
+ghost use Prim.Native.Nat.{_≤_};
+ghost use lib.ListN.{length};
+ghost use Rattle.plan_text.specs.Written.{lineRoom};
+ghost use Rattle.plan_answer.specs.Text.{tapeEnd};
+
+// Prints an answer, a buffer at a time.
+pub fn print_answer(text: &mut [u8], printed: Printed, tape: &[u8])
+    requires { ⌜ tapeEnd printed ≤ length (now tape) ⌝ }
+    requires { ⌜ lineRoom ≤ length (now text) ⌝ }
+{
+    let end = text_end(printed);
+    let mut at = 0;
+    while at < end {
+        let part = put_part(text, printed, tape, at);
+        let size = part.end;
+        io::write_all(STDOUT_FILENO, &text[..size]);
+        at = part.next;
+    }
+}

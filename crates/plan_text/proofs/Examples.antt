@@ -1,0 +1,83 @@
+-- Examples, computed: the lines of document 01's worked example, a line of each other kind, numbers, and what is a whole query.
+-- Assumes nothing.
+use mathlib.Core.Path.{_≡_, refl}
+use mathlib.Core.Bool.{true, false}
+use mathlib.Core.List.{List, [], _∷_, _++_}
+use Prim.Native.Nat.{ℕ}
+use lib.ListN.{replicate}
+use Rattle.fields.specs.Field.{uintBytes}
+use Rattle.geometry.specs.Placement.{IDENTITY}
+use Rattle.rules.specs.Event.{Event, batch, text, point, proxy, totals, scenePlan}
+use Rattle.rules.specs.Push.{noLabel}
+use Rattle.rules.specs.Tape.{encode}
+use Rattle.rules.proofs.Cases.Samples.{spot, page}
+use Rattle.plan_text.specs.Ascii.{ascii}
+use Rattle.plan_text.specs.Text.{decimal, hexadecimal, lineOf, refusedLine, linesFrom}
+use Rattle.plan_text.specs.Query.{wholeQuery, hiddenLayers}
+use Rattle.plan_text.proofs.Opened.{openedText}
+
+-- ---- the worked example
+
+-- a tape of some events, the last one first
+abbrev taped : List Event → List ℕ
+taped [] = []
+taped (e ∷ l) = taped l ++ encode e
+
+pub worked-example : linesFrom (taped (totals (scenePlan 80 1 0 1 1 0 0 0 0) ∷ text 0 (spot 10 20) ∷ [])) 0
+    ≡ ascii "text 0 4024000000000000 4034000000000000\ntotals 1 1 0 0 0 0\n"
+unfolding openedText
+worked-example = refl
+
+-- ---- a line of each other kind
+
+pub batch-line : lineOf (encode (batch 12 IDENTITY)) ≡ ascii "batch 12 3ff0000000000000 0000000000000000 0000000000000000 3ff0000000000000 0000000000000000 0000000000000000\n"
+unfolding openedText
+batch-line = refl
+
+pub point-line : lineOf (encode (point 255 65535 (spot 10 20))) ≡ ascii "point 255 65535 4024000000000000 4034000000000000\n"
+unfolding openedText
+point-line = refl
+
+pub proxy-line : lineOf (encode (proxy 4095 (page 10 20))) ≡ ascii "proxy 4095 0000000000000000 0000000000000000 4024000000000000 4034000000000000\n"
+unfolding openedText
+proxy-line = refl
+
+-- "an absent label as `none`"
+pub unlabelled-line : lineOf (encode (proxy noLabel (page 10 20))) ≡ ascii "proxy none 0000000000000000 0000000000000000 4024000000000000 4034000000000000\n"
+unfolding openedText
+unlabelled-line = refl
+
+pub refused-line : refusedLine 6 16777216 ≡ ascii "refused 6 16777216\n"
+unfolding openedText
+refused-line = refl
+
+-- ---- numbers
+
+pub numbers : (decimal 0 ≡ ascii "0") × (decimal 9 ≡ ascii "9") × (decimal 10 ≡ ascii "10") × (decimal 18446744073709551615 ≡ ascii "18446744073709551615")
+unfolding openedText
+numbers = (refl, refl, refl, refl)
+
+pub patterns : (hexadecimal 0 ≡ ascii "0000000000000000") × (hexadecimal 0x7FF8000000000000 ≡ ascii "7ff8000000000000") × (hexadecimal 0x123456789ABCDEF ≡ ascii "0123456789abcdef")
+unfolding openedText
+patterns = (refl, refl, refl)
+
+-- ---- a whole query
+
+-- a record of a length and a kind with so many bytes behind its head
+abbrev record-of : ℕ → ℕ → ℕ → List ℕ
+record-of size kind more = uintBytes 4 size ++ uintBytes 2 kind ++ replicate more 0
+
+pub whole-query : (wholeQuery (record-of 54 20 48) ≡ true) × (wholeQuery (record-of 58 20 52) ≡ true) × (wholeQuery (record-of 54 20 100) ≡ true)
+unfolding openedText
+whole-query = (refl, refl, refl)
+
+-- 53 bytes; a length below 54; one past the input; one that is not 54 + 4n; another kind
+pub no-query : (wholeQuery (record-of 54 20 47) ≡ false) × (wholeQuery (record-of 50 20 48) ≡ false) × (wholeQuery (record-of 58 20 48) ≡ false)
+    × (wholeQuery (record-of 56 20 52) ≡ false)
+    × (wholeQuery (record-of 54 21 48) ≡ false)
+unfolding openedText
+no-query = (refl, refl, refl, refl, refl)
+
+pub two-hidden-layers : hiddenLayers (record-of 62 20 48 ++ uintBytes 4 65536 ++ uintBytes 4 131075) ≡ 65536 ∷ 131075 ∷ []
+unfolding openedText
+two-hidden-layers = refl

@@ -1,0 +1,2 @@
+-- The places of a stored case.
+pub mod Case
