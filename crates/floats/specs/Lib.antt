@@ -1,4 +1,4 @@
--- What the contracts of `floats` cite. The first three modules are the meaning of the public functions: a reader must believe them, with the kit's `lib.Ieee`.
+-- What the contracts of `floats` cite. The first three modules are the meaning of the public functions: a reader must believe them, with the toolchain's `lib.Ieee`.
 -- The others state what the steps inside the crate hand to one another; no public contract rests on them.
 
 -- the public functions

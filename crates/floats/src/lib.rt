@@ -1,6 +1,6 @@
 // The float operations that the language lacks, each for every input: NaN, the infinities, the zeros
 // of both signs, the subnormals and overflow. A contract is one equation with a definition in the
-// style of the kit's model of IEEE 754, `lib.Ieee`; those that it lacks stand in specs/ (`Fma`,
+// style of the toolchain's model of IEEE 754, `lib.Ieee`; those that it lacks stand in specs/ (`Fma`,
 // `Narrow`, `Order`).
 //
 // The fused operation and the conversions are worked on the sign, exponent and fraction fields of the
