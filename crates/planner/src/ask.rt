@@ -39,7 +39,7 @@ pub fn zoom_ok(zoom: f64) -> bool
 }
 
 // Question 11: "Has the counts scratch cells × depth 64-bit places, and the marks scratch cells × (depth + 2) bytes?"
-// The products of two 32-bit numbers do not wrap.
+// No product wraps: (2^32 - 1) * (2^32 + 1) is 2^64 - 1.
 pub fn has_scratch(cells: u32, depth: u32, counts_len: usize, marks_len: usize) -> bool
     ensures { λ r. ⌜ r ≡ (leb (countsNamed cells depth) «counts_len» && leb (marksNamed cells depth) «marks_len») ⌝ }
 {

@@ -64,7 +64,7 @@ pub fn push_geometry(
     list_batch(out, plan, number, transform)
 }
 
-// The object limit is not asked: `visit_cell` has asked it, and a text that is a reference's source is listed past it, as in the Rust.
+// The budget is not asked here: `visit_cell` asks it before each text and `visit_reference` before each member, as in the Rust.
 pub fn push_text(
     sheet: &[u8],
     query: SceneOptions,

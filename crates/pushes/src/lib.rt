@@ -25,7 +25,7 @@ pub use limits::is_hidden;
 pub use load::add_load;
 pub use load::add_load_if_boxed;
 
-// A plan, and whether all was listed: `false` at an exhausted budget.
+// A plan, and whether the visit goes on: `false` where a limit stopped a node's points or a list of a cell.
 pub struct Visited {
     pub plan: ScenePlan,
     pub whole: bool,

@@ -1,4 +1,5 @@
--- The lent scratch is the Rust's memory: `complexity_cache`, `complexity_stack` and `cell_stack`.
+-- Counting over the lent scratch is counting over the Rust's memory: `complexity_cache`, `complexity_stack` and `cell_stack`.
+-- A cell is opened and closed in both alike, and a plan starts with the two in agreement. That a whole plan keeps it is not stated.
 --     Maps        the draw units over maps and sets, as the Rust has them
 --     Places      no two cells or layers share a place
 --     Faithful    the two count alike, and go on agreeing

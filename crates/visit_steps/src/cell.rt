@@ -14,7 +14,7 @@ ghost use Rattle.rules.specs.Scratch.{openPlace};
 ghost use Rattle.rules.specs.Visit.{VisitReference, cellBody, visitFoundCell};
 ghost use Rattle.rules.specs.Tape.{noTag, onTape};
 
-// The plan so far, whether the cell's lists are to be visited, and the cell's placed box.
+// The plan so far, whether the cell's lists are to be visited, and, if so, the cell's placed box.
 pub struct Entered {
     pub plan: ScenePlan,
     pub goes: bool,

@@ -81,7 +81,7 @@ fn over(plan: ScenePlan) -> Opened
     }
 }
 
-// `should_collapse_reference` for a reference of so many members, or for one member, by the size of its box on the screen.
+// `should_collapse_reference` for a reference of so many members, by the size of its box on the screen.
 pub fn collapses(
     query: SceneOptions,
     source_bbox: WorldBBox,
