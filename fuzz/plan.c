@@ -2,7 +2,8 @@
  *
  * An input is what the program `plan` reads: a query as a record of kind 20, then the sheet. Other bytes are taken as a
  * sheet under a query of our own. Each call is held to document 01's sentences about answers and memory, and an accepted
- * sheet is called again with exactly the memory that it needs, and with one place less of each.
+ * sheet is called again with exactly the memory that it needs, and with one place less of each. The sheet and the hidden
+ * layers are compared after each call, and calls that were broken off are counted.
  *
  * Compiled as it is, memory comes from malloc, for the address sanitizer. With -DGUARD_PAGES it lies before a page that
  * may not be touched, and `main` runs the files that it is given: so the archive is tried that programs link.
@@ -81,6 +82,7 @@ static double float_at(const uint8_t *from)
     return value;
 }
 
+/* given, given_hidden: the bytes that sheet and hidden were copied from, which the planner does not know. */
 struct input {
     uint32_t root, depth;
     double view[4], zoom;
@@ -88,6 +90,7 @@ struct input {
     size_t sheet_length;
     uint32_t *hidden;
     size_t hidden_length;
+    const uint8_t *given, *given_hidden;
 };
 
 /* The length of a whole query at the start, or 0. */
@@ -99,7 +102,7 @@ static size_t query_length(const uint8_t *data, size_t size)
 
 static struct input read_input(const uint8_t *data, size_t size)
 {
-    struct input in = { 0, 8, { -1e6, -1e6, 1e6, 1e6 }, 1.0, NULL, 0, NULL, 0 };
+    struct input in = { 0, 8, { -1e6, -1e6, 1e6, 1e6 }, 1.0, NULL, 0, NULL, 0, NULL, NULL };
     size_t length = query_length(data, size), i;
     if (length > 0) {
         in.root = (uint32_t)field(data + 6, 4);
@@ -110,16 +113,27 @@ static struct input read_input(const uint8_t *data, size_t size)
         in.zoom = float_at(data + 46);
         in.hidden_length = (length - 54) / 4;
     }
+    in.given_hidden = length > 0 ? data + 54 : data;
     in.hidden = take(4 * in.hidden_length);
     for (i = 0; i < in.hidden_length; i++) {
-        in.hidden[i] = (uint32_t)field(data + 54 + 4 * i, 4);
+        in.hidden[i] = (uint32_t)field(in.given_hidden + 4 * i, 4);
     }
+    in.given = data + length;
     in.sheet_length = size - length;
     in.sheet = take(in.sheet_length);
     if (in.sheet_length > 0) {
-        memcpy(in.sheet, data + length, in.sheet_length);
+        memcpy(in.sheet, in.given, in.sheet_length);
     }
     return in;
+}
+
+static void expect_as_given(const struct input *in)
+{
+    size_t i;
+    expect(in->sheet_length == 0 || memcmp(in->sheet, in->given, in->sheet_length) == 0, "the sheet is as lent");
+    for (i = 0; i < in->hidden_length; i++) {
+        expect(in->hidden[i] == field(in->given_hidden + 4 * i, 4), "the hidden layers are as lent");
+    }
 }
 
 /* The cells of a sheet whose records are whole; of another sheet any number. */
@@ -181,6 +195,7 @@ struct answer {
 };
 
 static sigjmp_buf out_of_time;
+static unsigned long calls, broken_off;
 
 static void on_alarm(int signal)
 {
@@ -200,7 +215,9 @@ static struct answer call(const struct input *in, const struct lent *lent)
     struct answer answer = { 99, 99, 99, 1 };
     volatile size_t offset = ~(size_t)0, length = ~(size_t)0;
     signal(SIGVTALRM, on_alarm);
+    calls++;
     if (sigsetjmp(out_of_time, 1) != 0) {
+        broken_off++;
         answer.ended = 0;
         return answer;
     }
@@ -249,6 +266,7 @@ static void expect_tape(const uint8_t *tape, size_t length)
     expect(listed[4] == 1, "a plan has its totals once");
     expect(field(tape + length - 40, 8) == listed[0] + listed[1] + listed[2], "objects are the batches, texts and points");
     expect(listed[0] + listed[1] + listed[2] <= 20000 && listed[1] <= 10000 && listed[3] <= 100000, "the limits hold");
+    expect(field(tape + length - 48, 8) <= 20000, "at most 20,000 cells are in detail");
     for (i = 0; i < 5; i++) {
         features[13 + 32 * i + digits(listed[i]) % 32] = 1;
     }
@@ -288,6 +306,7 @@ static struct answer checked(const struct input *in, size_t cells, const size_t 
 {
     struct lent lent = lend(sizes[0], sizes[1], sizes[2], fill);
     struct answer answer = call(in, &lent);
+    expect_as_given(in);
     if (answer.ended) {
         expect_memory(in, answer, &lent, cells * in->depth, cells * ((size_t)in->depth + 2));
         if (answer.number == 0 && tape != NULL) {
@@ -341,7 +360,19 @@ int LLVMFuzzerTestOneInput(const uint8_t *data, size_t size)
     return 0;
 }
 
-#ifdef GUARD_PAGES
+static void say_calls(void)
+{
+    fprintf(stderr, "%lu calls, of them %lu calls broken off after 0.2 s\n", calls, broken_off);
+}
+
+#ifndef GUARD_PAGES
+int LLVMFuzzerInitialize(int *count, char ***words)
+{
+    (void)count;
+    (void)words;
+    return atexit(say_calls);
+}
+#else
 int main(int count, char **names)
 {
     static uint8_t data[1 << 20];
@@ -357,6 +388,8 @@ int main(int count, char **names)
         LLVMFuzzerTestOneInput(data, size);
     }
     printf("%d inputs, no fault\n", count - 1);
+    fflush(stdout);
+    say_calls();
     return 0;
 }
 #endif

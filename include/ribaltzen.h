@@ -25,7 +25,8 @@ enum {
     RIBALTZEN_WRONG_FIELD = 4,         /* Are columns and rows at most 32,767, spare flag bits zero, absent boxes zero,
                                           the source kind 1 to 5, and a cell source below FFFFFFFF? */
     RIBALTZEN_FLOAT_NOT_FINITE = 5,    /* Is every float finite? */
-    RIBALTZEN_NUMBER_NOT_NAMED = 6,    /* Does every number name an existing record, a reference source an earlier one? */
+    RIBALTZEN_NUMBER_NOT_NAMED = 6,    /* Does every number in a cell, and every source but a cell source, name an
+                                          existing record, and a reference source an earlier one? */
     RIBALTZEN_TOO_MANY_CELLS = 7,      /* Are there at most 4,096 cells? (asked before number 6) */
     RIBALTZEN_BAD_VIEW = 8,            /* Is the view finite, min at most max? */
     RIBALTZEN_BAD_ZOOM = 9,            /* Is zoom finite and above 0? */

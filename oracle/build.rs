@@ -1,6 +1,6 @@
-//! Takes the planner's text from the seed Rust and writes the copies of it into OUT_DIR: one unmodified, one
+//! Takes the planner's text from the Rust source and writes the copies of it into OUT_DIR: one unmodified, one
 //! instrumented, one with all planted mistakes, each behind a switch. Every piece and edit is asserted.
-//! The seed is found by GDSR_SOURCE, else at ../../shared/docs/src beside the repository. Where it is absent the
+//! The source is found by GDSR_SOURCE, else at ../../shared/docs/src beside the repository. Where it is absent the
 //! build goes on without a planner, and every subcommand that plans says so.
 //! With the feature `library` the static libraries of the Rattle planner are linked, from RIBALTZEN_LIBRARY or else
 //! from ../target/staticlib, where `rt staticlib` writes them.
@@ -38,16 +38,16 @@ fn main() {
     println!("cargo::rerun-if-env-changed=GDSR_SOURCE");
     println!("cargo::rerun-if-changed=build.rs");
     println!("cargo::rerun-if-changed=src");
-    println!("cargo::rustc-check-cfg=cfg(seedless)");
-    let seed = env::var("GDSR_SOURCE")
+    println!("cargo::rustc-check-cfg=cfg(sourceless)");
+    let source = env::var("GDSR_SOURCE")
         .map_or_else(|_| package.join("../../shared/docs/src"), PathBuf::from);
-    println!("cargo::rerun-if-changed={}", seed.display());
-    let generated = if seed.join(edits::SCENE).is_file() {
-        with_seed(&package, &seed)
+    println!("cargo::rerun-if-changed={}", source.display());
+    let generated = if source.join(edits::SCENE).is_file() {
+        with_source(&package, &source)
     } else {
-        println!("cargo::warning=the seed source is absent: built without a planner");
-        println!("cargo::rustc-cfg=seedless");
-        without_seed()
+        println!("cargo::warning=the Rust source is absent: built without a planner");
+        println!("cargo::rustc-cfg=sourceless");
+        without_source()
     };
     let out = PathBuf::from(env::var("OUT_DIR").unwrap()).join("variants.rs");
     fs::write(out, generated).unwrap();
@@ -68,13 +68,13 @@ fn link_library(package: &Path) {
     }
 }
 
-fn without_seed() -> String {
+fn without_source() -> String {
     "pub static COPIES: Option<Copies> = None;\n".to_string()
 }
 
-fn with_seed(package: &Path, seed: &Path) -> String {
+fn with_source(package: &Path, source: &Path) -> String {
     let ours = |name: &str| fs::read_to_string(package.join("src").join(name)).unwrap();
-    let taken: String = PIECES.iter().map(|piece| take(seed, piece)).collect();
+    let taken: String = PIECES.iter().map(|piece| take(source, piece)).collect();
     let taken = apply(&taken, SUBSTITUTIONS, "substitutions");
     let taken = apply(&taken, ALTERATIONS, "alterations");
     let standins = ours("variant/standins.rs");
@@ -107,8 +107,8 @@ pub static COPIES: Option<Copies> = Some(Copies {
 ";
 
 /// One asserted run of lines.
-fn take(seed: &Path, piece: &Piece) -> String {
-    let text = fs::read_to_string(seed.join(piece.file))
+fn take(source: &Path, piece: &Piece) -> String {
+    let text = fs::read_to_string(source.join(piece.file))
         .unwrap_or_else(|error| panic!("{}: {error}", piece.file));
     let lines: Vec<&str> = text.lines().collect();
     let (first, last) = piece.lines;

@@ -3,7 +3,8 @@
 
 One input of the program `plan` for each record kind and each answer that it can print. stdin holds them one after the other, each after its
 length (4 bytes); stdout holds `case K` and what must be printed. The text comes from the judge (JUDGE is the built `oracle`), but for the
-two cases that meet the program's own buffers, which the judge does not know: docs/LIMITS.md has their sizes.
+cases that meet the program's own buffers, which the judge does not know: docs/LIMITS.md has the sizes of tape and hidden layers, and
+crates/plan_cases reads inputs of at most 230,000 bytes; a longer one is the last.
 """
 import pathlib
 import struct
@@ -80,6 +81,7 @@ CASES = [
     ("a length of 55", struct.pack("<I", 55) + ask()[4:] + bytes(8)),
     ("a length past the end", struct.pack("<I", 58) + ask()[4:]),
     ("16,385 hidden layers", ask(hidden=",".join(["9/9"] * 16385)) + WORKED, "too long\n"),
+    ("230,001 bytes", bytes(230001), "too long\n"),
 ]
 
 

@@ -8,7 +8,7 @@ use crate::answer::Outcome;
 use crate::checksum::fnv1a;
 use crate::coverage::{Coverage, tags};
 use crate::edits::{ALTERATIONS, Edit, PIECES, SUBSTITUTIONS, instrument::INSTRUMENT, planted};
-use crate::events::{OutOfFuel, set_fuel};
+use crate::events::{OutOfFuel, fuel_left, set_fuel};
 use crate::generator::{FAMILIES, Family, edges, faults, large::LARGE, make, make_edge, make_large};
 use crate::harness::{Oracle, Tally};
 use crate::stored::{answer, read_cases, read_large};
@@ -17,13 +17,14 @@ use crate::variants::{JUDGE, checked};
 /// Steps that a fresh case may take; a hostile one is passed over.
 const FUEL: u64 = 5_000_000;
 
-/// What a run gives, unless it takes too long. Any other panic goes on.
-pub fn bounded<T>(run: impl FnOnce() -> T) -> Option<T> {
+/// What a run gives and how many steps it took, unless they are too many. Any other panic goes on.
+pub fn bounded<T>(run: impl FnOnce() -> T) -> Option<(T, u64)> {
     set_fuel(FUEL);
     let result = catch_unwind(AssertUnwindSafe(run));
+    let steps = FUEL - fuel_left();
     set_fuel(u64::MAX);
     match result {
-        Ok(value) => Some(value),
+        Ok(value) => Some((value, steps)),
         Err(panic) if panic.is::<OutOfFuel>() => None,
         Err(panic) => resume_unwind(panic),
     }
@@ -32,7 +33,7 @@ pub fn bounded<T>(run: impl FnOnce() -> T) -> Option<T> {
 /// The answer to a fresh case, unless it takes too long.
 fn fresh(family: &Family, seed: u64) -> Option<(Vec<u8>, Outcome)> {
     let input = make(family, seed);
-    bounded(|| answer(&input)).map(|outcome| (input, outcome))
+    bounded(|| answer(&input)).map(|(outcome, _)| (input, outcome))
 }
 
 /// Fresh cases of every family, both copies checked against each other on each: cases run and passed over.
@@ -146,10 +147,10 @@ fn edit_rows(title: &str, edits: &[Edit]) -> String {
     text
 }
 
-/// Everything that is taken from the seed and changed in it: EDITS.md.
+/// Everything that is taken from the Rust source and changed in it: EDITS.md.
 pub fn edits_page() -> String {
     let mut text = String::from(
-        "# What is taken from the seed, and every edit of it\n\nMade by `oracle edits`; `oracle/quick` checks that it \
+        "# What is taken from the Rust source, and every edit of it\n\nMade by `oracle edits`; `oracle/quick` checks that it \
          is up to date. build.rs asserts the first and last line of each piece, and that each edit meets exactly its \
          count of places.\n\n## Pieces\n\n| piece | file | lines |\n|---|---|---|\n",
     );

@@ -1,8 +1,10 @@
 //! The planner's static library against the judge: stored, large and fresh cases, each called on lent memory of several
-//! sizes. The answer, the tape and every lent byte are compared, and the bytes around what was lent.
+//! sizes. The answer, the tape and every lent byte are compared, and the bytes around what was lent. The sheet and the
+//! hidden layers, which are only read, lie in memory that could be written, and are compared too.
 
 use std::collections::BTreeMap;
 use std::fs;
+use std::hint::black_box;
 use std::path::{Path, PathBuf};
 
 use crate::answer::{Answer, Lent, Refusal};
@@ -20,6 +22,9 @@ use crate::variants::checked;
 const GUARD: usize = 16;
 /// One in so many fresh cases is called with every size around its need: a prime, so that every family has some.
 const SWEPT: u64 = 199;
+/// A file is swept if the judge's steps times the sheet's bytes are at most this: hundreds of longer calls would take
+/// minutes.
+const SWEPT_WORK: u64 = 4_000_000;
 /// The answers that a row counts: a plan, numbers 1 to 12, and cases passed over as hostile or without a query.
 const COLUMNS: usize = 14;
 const PASSED_OVER: usize = 13;
@@ -44,6 +49,10 @@ fn judged(sheet: &[u8], query: &Query) -> Judged {
 
 #[derive(Default)]
 pub struct Report {
+    /// Cases that were called, each with several sizes.
+    pub cases: u64,
+    /// Cases that were not called: without a query, or hostile.
+    pub passed_over: u64,
     pub calls: u64,
     pub differences: u64,
     /// Tapes that are the judge's but for signs of zero, which document 01's comparison takes as equal.
@@ -72,14 +81,17 @@ impl<T: Copy + PartialEq> Guarded<T> {
     }
 }
 
-/// One call on guarded copies of what is lent: none if a byte around them changed.
+/// One call on guarded copies of what is lent: none if a byte around them changed, or the sheet, or a hidden layer.
 fn call(subject: &mut dyn Subject, sheet: &[u8], query: &Query, lent: &Lent) -> (Answer, Option<Lent>) {
     let mut output = Guarded::new(&lent.output, 0xa5);
     let mut counts = Guarded::new(&lent.counts, 0xa5a5_a5a5_a5a5_a5a5);
     let mut marks = Guarded::new(&lent.marks, 0xa5);
-    let answer = subject.plan(sheet, query, output.lent(), counts.lent(), marks.lent());
+    let (own_sheet, own_query) = (sheet.to_vec(), query.clone());
+    let answer = subject.plan(&own_sheet, &own_query, output.lent(), counts.lent(), marks.lent());
+    // The black box: else the compiler may take for granted that what is lent shared does not change.
+    let as_read = *black_box(&own_sheet) == sheet && *black_box(&own_query.hidden) == query.hidden;
     let after = output.back(0xa5).zip(counts.back(0xa5a5_a5a5_a5a5_a5a5)).zip(marks.back(0xa5));
-    (answer, after.map(|((output, counts), marks)| Lent { output, counts, marks }))
+    (answer, after.filter(|_| as_read).map(|((output, counts), marks)| Lent { output, counts, marks }))
 }
 
 /// The tape with every zero positive: floats stand at the same places in records of the same kinds.
@@ -175,17 +187,20 @@ struct Runner<'a> {
 }
 
 impl Runner<'_> {
-    /// One case in all its calls.
-    fn case(&mut self, family: &str, label: &str, input: &[u8], seed: u64, swept: bool) {
+    /// One case in all its calls, swept if the judge's steps times the bytes are at most so many.
+    fn case(&mut self, family: &str, label: &str, input: &[u8], seed: u64, swept: Option<u64>) {
         let row = self.report.rows.entry(family.to_string()).or_default();
         let judged = split(input).and_then(|(query, start)| {
             let sheet = &input[start..];
             Some((bounded(|| judged(sheet, &query))?, query, sheet))
         });
-        let Some((judged, query, sheet)) = judged else {
+        let Some(((judged, steps), query, sheet)) = judged else {
             row[PASSED_OVER] += 1;
+            self.report.passed_over += 1;
             return;
         };
+        self.report.cases += 1;
+        let swept = swept.is_some_and(|most| steps * sheet.len() as u64 <= most);
         let mut rng = Rng::new(seed ^ 0xd1ff);
         let mut first = true;
         for (output, counts, marks) in sizes(&judged, swept, &mut rng) {
@@ -194,7 +209,7 @@ impl Runner<'_> {
             self.report.calls += 1;
             row[(answer.number as usize).min(PASSED_OVER - 1)] += 1;
             let fault = match after {
-                None => Some("a byte outside what was lent has changed".to_string()),
+                None => Some("a byte that was not lent for writing has changed".to_string()),
                 Some(after) => fault(&judged, answer, &before, &after, &mut self.report.zeros),
             };
             if let Some(fault) = fault {
@@ -208,7 +223,7 @@ impl Runner<'_> {
     }
 }
 
-/// Every file of a folder with every size, as a fuzzer leaves them.
+/// Every file of a folder, as a fuzzer leaves them; with every size where that is soon done.
 pub fn run_files(subject: &mut dyn Subject, files: &Path, folder: &Path) -> Report {
     let kept = Kept { folder: folder.to_path_buf(), shown: 0 };
     let mut runner = Runner { subject, report: Report::default(), kept };
@@ -216,7 +231,7 @@ pub fn run_files(subject: &mut dyn Subject, files: &Path, folder: &Path) -> Repo
     names.sort();
     for (place, name) in names.iter().enumerate() {
         let input = fs::read(name).expect("a file");
-        runner.case("files", &name.display().to_string(), &input, place as u64, true);
+        runner.case("files", &name.display().to_string(), &input, place as u64, Some(SWEPT_WORK));
     }
     runner.report
 }
@@ -226,17 +241,18 @@ pub fn run(subject: &mut dyn Subject, count: u64, seed: u64, folder: &Path) -> R
     let kept = Kept { folder: folder.to_path_buf(), shown: 0 };
     let mut runner = Runner { subject, report: Report::default(), kept };
     for (place, entry) in entries().iter().enumerate() {
-        runner.case("stored", &format!("{} {}", entry.family, entry.label), &entry.input, place as u64, true);
+        runner.case("stored", &format!("{} {}", entry.family, entry.label), &entry.input, place as u64, Some(u64::MAX));
     }
     for large in LARGE {
         let label = format!("{} {}", large.name, large.seed);
-        runner.case("large", &label, &make_large(large), large.seed, false);
+        runner.case("large", &label, &make_large(large), large.seed, None);
     }
     for place in 0..count {
         let family = &FAMILIES[(place % FAMILIES.len() as u64) as usize];
         let seed = seed + place / FAMILIES.len() as u64;
         let label = format!("seed {seed}");
-        runner.case(family.name, &label, &make(family, seed), seed, place % SWEPT == 0);
+        let swept = (place % SWEPT == 0).then_some(u64::MAX);
+        runner.case(family.name, &label, &make(family, seed), seed, swept);
     }
     runner.report
 }

@@ -181,6 +181,10 @@ pub fn set_fuel(steps: u64) {
     FUEL.set(steps);
 }
 
+pub fn fuel_left() -> u64 {
+    FUEL.get()
+}
+
 /// The planted mistake that is switched on in this thread; 0 for none.
 pub fn mistake() -> usize {
     MISTAKE.get()

@@ -100,14 +100,15 @@ pub fn is_as_stated(answer: Answer, before: &Lent, after: &Lent, needed: Option<
         return (1..=10).contains(&answer.number) && after == before;
     };
     if before.counts.len() < counts || before.marks.len() < marks {
-        return answer.number == 11 && after == before;
+        return answer == (Answer { number: 11, offset: 0, length: 0 }) && after == before;
     }
     let scratch = after.counts[..counts].iter().all(|&count| count == 0)
         && after.marks[..marks].iter().all(|&mark| mark == 0)
         && after.counts[counts..] == before.counts[counts..]
         && after.marks[marks..] == before.marks[marks..];
     if before.output.len() < tape {
-        return answer.number == 12 && scratch && after.output.iter().all(|&byte| byte == 0);
+        let zeroed = after.output.iter().all(|&byte| byte == 0);
+        return answer == (Answer { number: 12, offset: 0, length: 0 }) && scratch && zeroed;
     }
     let past = after.output[tape..] == before.output[tape..];
     answer == (Answer { number: 0, offset: 0, length: tape as u64 }) && scratch && past

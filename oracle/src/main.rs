@@ -1,8 +1,8 @@
 //! The judge of demand 2: the Rust planner's own text over stand-ins, a generator, stored answers, planted mistakes
 //! and demand 3 by brute force. README.md says what each subcommand does.
 
-// Without the seed much here has no caller.
-#![cfg_attr(seedless, allow(dead_code, unused_imports))]
+// Without the Rust source much here has no caller.
+#![cfg_attr(sourceless, allow(dead_code, unused_imports))]
 
 mod answer;
 mod brute;
@@ -146,7 +146,14 @@ fn judge_library(run: impl FnOnce(&mut dyn harness::Subject, &Path) -> different
     let folder = Path::new(env!("CARGO_MANIFEST_DIR")).join("target/differential");
     let report = run(&mut library::Library, &folder);
     print!("{}", report.table());
-    println!("{} calls; tapes alike but for signs of zero: {}", report.calls, report.zeros);
+    println!(
+        "{} cases compared, {} passed over (no query, or hostile); {} calls; tapes alike but for signs of zero: {}",
+        report.cases, report.passed_over, report.calls, report.zeros
+    );
+    if report.calls == 0 {
+        println!("nothing was compared");
+        verdict((0, 1));
+    }
     verdict(((report.calls - report.differences) as usize, report.differences as usize));
 }
 

@@ -1,5 +1,5 @@
 //! The planner's static library against the Rust on large sheets, in one run: each round takes every measurement once,
-//! one after the other, and the least and the middle of each are given. `bench/plan/run` prints this table.
+//! one after the other, and the least and the median of each are given. `bench/plan/run` prints this table.
 //!
 //! Ours works on the sheet's bytes. *check* is questions 1 to 7 alone (`sheet_check`), *plan* is the time of the whole
 //! call less that of the check. The Rust plans on a prepared library. *build* reads the bytes (the judge's reader) and
@@ -20,7 +20,7 @@ use crate::sheet::{Query, Sheet};
 use crate::timing::SHEETS;
 use crate::variants::copies;
 
-/// A sheet is not measured longer than this: the rounds that were made are counted in the table.
+/// No round of a sheet begins after this: the rounds that were made are counted in the table.
 const PATIENCE: Duration = Duration::from_secs(60);
 
 /// Our check, our whole call, the Rust's build and the Rust's plan in one round.
@@ -44,11 +44,11 @@ fn round(bytes: &[u8], sheet: &Sheet, query: &Query, lent: &mut Lent, length: u6
     [checked, whole, read + prepared, planned]
 }
 
-/// The least and the middle of one measurement, in milliseconds.
+/// The least and the median of one measurement, in milliseconds.
 fn figures(rounds: &[Round], place: usize) -> (f64, f64) {
     let mut times: Vec<f64> = rounds.iter().map(|round| round[place].as_secs_f64() * 1e3).collect();
     times.sort_by(f64::total_cmp);
-    (times[0], times[times.len() / 2])
+    (times[0], (times[(times.len() - 1) / 2] + times[times.len() / 2]) / 2.0)
 }
 
 /// A row of the table, for a case that is planned.
@@ -67,7 +67,7 @@ fn row(name: &str, input: &[u8], most: usize) -> Option<String> {
     assert!(lent.output == expected, "{name}: the judge's tape");
     let [check, whole, build, rust] = [0, 1, 2, 3].map(|place| figures(&rounds, place));
     let plan = ((whole.0 - check.0).max(0.0), (whole.1 - check.1).max(0.0));
-    let pair = |(least, middle): (f64, f64)| format!("{least:.3} / {middle:.3}");
+    let pair = |(least, median): (f64, f64)| format!("{least:.3} / {median:.3}");
     // A plan that is lost in the noise of the check has no ratio.
     let ratio = if plan.0 == 0.0 { "-".to_string() } else { format!("{:.1}", plan.0 / rust.0) };
     Some(format!(
@@ -85,7 +85,7 @@ fn row(name: &str, input: &[u8], most: usize) -> Option<String> {
 
 /// The table in Markdown: five large sheets, then every limit case that is planned.
 pub fn run(most: usize) {
-    println!("Milliseconds, least / middle of the rounds. Ratios are of the least times.\n");
+    println!("Milliseconds, least / median of the rounds. Ratios are of the least times.\n");
     println!(
         "| sheet | bytes | tape | rounds | our check | our plan | Rust build | Rust plan | plan / Rust plan | check + plan / build + plan |"
     );

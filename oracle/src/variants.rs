@@ -17,10 +17,10 @@ pub use made::COPIES;
 pub const JUDGE: Judge =
     Judge { program: crate::judge::program::program, call: crate::judge::call::call };
 
-/// The copies, or a plain end where the seed was absent at build time.
+/// The copies, or a plain end where the Rust source was absent at build time.
 pub fn copies() -> Copies {
     COPIES.unwrap_or_else(|| {
-        eprintln!("the seed source is absent: this build has no planner");
+        eprintln!("the Rust source is absent: this build has no planner");
         std::process::exit(3);
     })
 }

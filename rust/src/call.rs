@@ -1,6 +1,6 @@
 //! One call of the library: what is asked, what is lent, and the answer.
 
-use crate::{WorldBBox, MOST_CELLS, MOST_DEPTH, MOST_TAPE, Record, Records, Refusal, Totals};
+use crate::{MOST_CELLS, MOST_DEPTH, MOST_TAPE, Record, Records, Refusal, Totals, WorldBBox};
 
 // As include/ribaltzen.h declares it.
 unsafe extern "C" {
@@ -44,7 +44,13 @@ pub struct Query<'a> {
 /// Cell 0 at depth 1, seen through a view of one point, nothing hidden.
 impl Default for Query<'_> {
     fn default() -> Self {
-        Self { root: 0, depth: 1, view: WorldBBox::default(), zoom: 1.0, hidden: &[] }
+        Self {
+            root: 0,
+            depth: 1,
+            view: WorldBBox::default(),
+            zoom: 1.0,
+            hidden: &[],
+        }
     }
 }
 
@@ -54,7 +60,8 @@ pub fn hidden_layer(layer: u16, data_type: u16) -> u32 {
 }
 
 /// Memory lent for one call. What it holds before does not matter. After a plan `out` holds the tape and is otherwise as
-/// lent, and the first cells × depth `counts` and cells × (depth + 2) `marks` are zero.
+/// lent, and the named scratch, the first cells × depth `counts` and cells × (depth + 2) `marks`, is zero.
+/// Refusals 1 to 11 leave all as lent; 12 zeroes `out` and the named scratch.
 pub struct Lent<'a> {
     pub out: &'a mut [u8],
     pub counts: &'a mut [u64],
@@ -77,11 +84,19 @@ impl Buffers {
     /// Enough for tapes of so many bytes, and sheets of so many cells at a depth.
     pub fn with_sizes(tape: usize, cells: usize, depth: u32) -> Self {
         let depth = depth as usize;
-        Self { out: vec![0; tape], counts: vec![0; cells * depth], marks: vec![0; cells * (depth + 2)] }
+        Self {
+            out: vec![0; tape],
+            counts: vec![0; cells * depth],
+            marks: vec![0; cells * (depth + 2)],
+        }
     }
 
     pub fn lend(&mut self) -> Lent<'_> {
-        Lent { out: &mut self.out, counts: &mut self.counts, marks: &mut self.marks }
+        Lent {
+            out: &mut self.out,
+            counts: &mut self.counts,
+            marks: &mut self.marks,
+        }
     }
 }
 
@@ -118,6 +133,8 @@ impl<'a> Plan<'a> {
 }
 
 /// Plans a sheet. It always answers, but a small hostile sheet can take very long.
+///
+/// The thread needs 128 KiB of stack left: at depth 32 a call took 83 KiB. No proof covers the stack.
 pub fn plan<'a>(sheet: &[u8], query: &Query, lent: Lent<'a>) -> Result<Plan<'a>, Refusal> {
     let (mut offset, mut length) = (0, 0);
     // SAFETY: each pointer with its length is one of Rust's slices, so it is not null, is aligned, and what is written
@@ -149,5 +166,7 @@ pub fn plan<'a>(sheet: &[u8], query: &Query, lent: Lent<'a>) -> Result<Plan<'a>,
         return Err(Refusal { number, offset });
     }
     let out: &'a [u8] = lent.out;
-    Ok(Plan { tape: &out[..length] })
+    Ok(Plan {
+        tape: &out[..length],
+    })
 }

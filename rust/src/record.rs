@@ -24,11 +24,24 @@ pub struct Totals {
 /// One record of a plan. Numbers are those of the sheet's records, from 0 within their kind.
 #[derive(Clone, Copy, Debug, PartialEq)]
 pub enum Record {
-    Batch { number: u32, placement: Placement },
-    Text { number: u32, position: [f64; 2] },
-    Point { layer: u16, node_type: u16, position: [f64; 2] },
+    Batch {
+        number: u32,
+        placement: Placement,
+    },
+    Text {
+        number: u32,
+        position: [f64; 2],
+    },
+    Point {
+        layer: u16,
+        node_type: u16,
+        position: [f64; 2],
+    },
     /// A part that shrank to a box; the label is the number of its cell, where it has one.
-    Proxy { label: Option<u32>, bbox: WorldBBox },
+    Proxy {
+        label: Option<u32>,
+        bbox: WorldBBox,
+    },
     Totals(Totals),
 }
 
@@ -95,7 +108,10 @@ fn read(kind: u16, record: &[u8]) -> Option<Record> {
                 translation: pair_at(record, 42)?,
             },
         },
-        (12, 26) => Record::Text { number: u32_at(record, 6)?, position: pair_at(record, 10)? },
+        (12, 26) => Record::Text {
+            number: u32_at(record, 6)?,
+            position: pair_at(record, 10)?,
+        },
         (13, 26) => Record::Point {
             layer: u16_at(record, 6)?,
             node_type: u16_at(record, 8)?,
@@ -104,7 +120,15 @@ fn read(kind: u16, record: &[u8]) -> Option<Record> {
         (14, 42) => {
             let ([min_x, min_y], [max_x, max_y]) = (pair_at(record, 10)?, pair_at(record, 26)?);
             let label = Some(u32_at(record, 6)?).filter(|&label| label != NO_LABEL);
-            Record::Proxy { label, bbox: WorldBBox { min_x, min_y, max_x, max_y } }
+            Record::Proxy {
+                label,
+                bbox: WorldBBox {
+                    min_x,
+                    min_y,
+                    max_x,
+                    max_y,
+                },
+            }
         }
         (15, 54) => Record::Totals(Totals {
             detail_cells: u64_at(record, 6)?,

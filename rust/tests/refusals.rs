@@ -52,49 +52,118 @@ fn number_7_before_number_6() {
 fn numbers_8_to_10_for_the_query() {
     let sheet = worked();
     let of_query = |query: Query| refused(&sheet, &query);
-    let turned = WorldBBox { min_x: 1.0, ..WorldBBox::default() };
-    let endless = WorldBBox { max_y: f64::INFINITY, ..WorldBBox::default() };
-    assert_eq!(of_query(Query { view: turned, ..Query::default() }), (8, 0));
-    assert_eq!(of_query(Query { view: endless, ..Query::default() }), (8, 0));
+    let turned = WorldBBox {
+        min_x: 1.0,
+        ..WorldBBox::default()
+    };
+    let endless = WorldBBox {
+        max_y: f64::INFINITY,
+        ..WorldBBox::default()
+    };
+    assert_eq!(
+        of_query(Query {
+            view: turned,
+            ..Query::default()
+        }),
+        (8, 0)
+    );
+    assert_eq!(
+        of_query(Query {
+            view: endless,
+            ..Query::default()
+        }),
+        (8, 0)
+    );
     for zoom in [0.0, -0.0, -1.0, f64::NAN, f64::INFINITY] {
-        assert_eq!(of_query(Query { zoom, ..Query::default() }), (9, 0));
+        assert_eq!(
+            of_query(Query {
+                zoom,
+                ..Query::default()
+            }),
+            (9, 0)
+        );
     }
-    assert_eq!(of_query(Query { depth: 33, ..Query::default() }), (10, 0));
+    assert_eq!(
+        of_query(Query {
+            depth: 33,
+            ..Query::default()
+        }),
+        (10, 0)
+    );
 }
 
 /// The answer and the memory after a call with so many bytes and places, all filled with 7.
-fn with_sizes(out: usize, counts: usize, marks: usize) -> (Option<u32>, Vec<u8>, Vec<u64>, Vec<u8>) {
+fn with_sizes(
+    out: usize,
+    counts: usize,
+    marks: usize,
+) -> (Option<u32>, Vec<u8>, Vec<u64>, Vec<u8>) {
     let (mut o, mut c, mut m) = (vec![7u8; out], vec![7u64; counts], vec![7u8; marks]);
-    let lent = Lent { out: &mut o, counts: &mut c, marks: &mut m };
-    let view = WorldBBox { max_x: 100.0, max_y: 100.0, ..WorldBBox::default() };
-    let number = plan(&worked(), &Query { view, ..Query::default() }, lent).err().map(|refusal| refusal.number);
+    let lent = Lent {
+        out: &mut o,
+        counts: &mut c,
+        marks: &mut m,
+    };
+    let view = WorldBBox {
+        max_x: 100.0,
+        max_y: 100.0,
+        ..WorldBBox::default()
+    };
+    let number = plan(
+        &worked(),
+        &Query {
+            view,
+            ..Query::default()
+        },
+        lent,
+    )
+    .err()
+    .map(|refusal| refusal.number);
     (number, o, c, m)
 }
 
 #[test]
 fn number_11_touches_nothing() {
-    assert_eq!(with_sizes(80, 0, 3), (Some(11), vec![7; 80], vec![], vec![7; 3]));
-    assert_eq!(with_sizes(80, 1, 2), (Some(11), vec![7; 80], vec![7], vec![7; 2]));
+    assert_eq!(
+        with_sizes(80, 0, 3),
+        (Some(11), vec![7; 80], vec![], vec![7; 3])
+    );
+    assert_eq!(
+        with_sizes(80, 1, 2),
+        (Some(11), vec![7; 80], vec![7], vec![7; 2])
+    );
     assert_eq!(with_sizes(80, 1, 3).0, None);
 }
 
 #[test]
 fn number_12_zeroes_the_output() {
     for out in 0..80 {
-        assert_eq!(with_sizes(out, 2, 4), (Some(12), vec![0; out], vec![0, 7], vec![0, 0, 0, 7]));
+        assert_eq!(
+            with_sizes(out, 2, 4),
+            (Some(12), vec![0; out], vec![0, 7], vec![0, 0, 0, 7])
+        );
     }
     assert_eq!(with_sizes(80, 2, 4).0, None);
 }
 
 #[test]
 fn a_refusal_says_what_was_asked() {
-    let of_a_record = Refusal { number: 5, offset: 26 };
+    let of_a_record = Refusal {
+        number: 5,
+        offset: 26,
+    };
     assert_eq!(
         of_a_record.to_string(),
         "refused with number 5 at the record at byte 26: Is every float finite? No."
     );
-    let of_the_query = Refusal { number: 10, offset: 0 };
-    assert_eq!(of_the_query.to_string(), "refused with number 10: Is depth at most 32? No.");
+    let of_the_query = Refusal {
+        number: 10,
+        offset: 0,
+    };
+    assert_eq!(
+        of_the_query.to_string(),
+        "refused with number 10: Is depth at most 32? No."
+    );
     for number in 1..=12 {
         assert!(Refusal { number, offset: 0 }.question().ends_with('?'));
     }
@@ -105,7 +174,10 @@ struct Random(u64);
 
 impl Random {
     fn below(&mut self, bound: usize) -> usize {
-        self.0 = self.0.wrapping_mul(6_364_136_223_846_793_005).wrapping_add(1_442_695_040_888_963_407);
+        self.0 = self
+            .0
+            .wrapping_mul(6_364_136_223_846_793_005)
+            .wrapping_add(1_442_695_040_888_963_407);
         ((self.0 >> 33) as usize) % bound
     }
 }
@@ -116,7 +188,11 @@ fn hostile_bytes_get_an_answer() {
     let mut buffers = Buffers::with_sizes(400, 4, 3);
     let sound = worked();
     for round in 0..20_000 {
-        let mut sheet = if round % 4 == 0 { vec![0; random.below(200)] } else { sound.clone() };
+        let mut sheet = if round % 4 == 0 {
+            vec![0; random.below(200)]
+        } else {
+            sound.clone()
+        };
         for _ in 0..=random.below(4) {
             if !sheet.is_empty() {
                 let place = random.below(sheet.len());
@@ -124,7 +200,11 @@ fn hostile_bytes_get_an_answer() {
             }
         }
         sheet.truncate(sheet.len() - random.below(3).min(sheet.len()));
-        let query = Query { root: random.below(3) as u32, depth: random.below(5) as u32, ..Query::default() };
+        let query = Query {
+            root: random.below(3) as u32,
+            depth: random.below(5) as u32,
+            ..Query::default()
+        };
         match plan(&sheet, &query, buffers.lend()) {
             Ok(plan) => assert!(matches!(plan.records().last(), Some(Record::Totals(_)))),
             Err(refusal) => {

@@ -1,4 +1,4 @@
--- DEMAND 3 OF A CALL: an accepted call's output is the records of the events of which demand 3 is proved. Acceptance gives what questions 4, 9 and 10 ask.
+-- DEMAND 3 OF A CALL: an accepted call's output is the records of the rules' events, of which demand 3 is proved. Acceptance gives what questions 4, 9 and 10 ask.
 -- Assumes nothing.
 use mathlib.Core.Path.{_≡_, refl, sym, ap, _∙_, subst}
 use mathlib.Core.Bool.{Bool, true, false, cond, _&&_}
@@ -27,7 +27,7 @@ use Rattle.sheet.specs.declared.Checked.the-variants as checked
 use Rattle.sheet.specs.Count.{countsOf}
 use Rattle.sheet.specs.Links.{linkOk}
 use Rattle.sheet.specs.Check.{firstNo, firstUnnamed, checkSheet}
-use Rattle.sheet.specs.Valid.{Valid, sound-valid}
+use Rattle.sheet.specs.Valid.{Valid, sound-valid, sound-counts}
 use Rattle.sheet.specs.Laws.Values.{columns-most, rows-most}
 use Rattle.rules.specs.declared.ScenePlan.{ScenePlan}
 use Rattle.rules.specs.declared.Answer.the-variants.{Planned, Refused}
@@ -154,7 +154,7 @@ pub demand-3 : Demand3
 unfolding outcomeOf
 demand-3 s q o k m square true-boxes view zoom e = by (checkSheet s) refl (sheet-numbered s) e
   where
-    by : (x : Checked) → checkSheet s ≡ x → Numbered x → (checkedOutcome x (sheetOf s) q o k m) .number ≡ 0 → (trace : Trace) × IsTape (checkedOutcome x (sheetOf s) q o k m) trace o × LosesNothing (sheetOf s) q trace
+    by : (x : Checked) → checkSheet s ≡ x → Numbered x → (checkedOutcome x (sheetOf s) q o k m) .number ≡ 0 → (trace : Trace) × IsTape s q (checkedOutcome x (sheetOf s) q o k m) trace o × LosesNothing (sheetOf s) q trace
     by (checked.Refused n at) h f e = absurd (let z : _≡_ {A = ℕ} 0 1 = (let c = (f e) .1 in cc) in let y : ⊥ = omega arith in y)
     by (checked.Sound c) h f e =
         let S = sheetOf s in
@@ -163,6 +163,7 @@ demand-3 s q o k m square true-boxes view zoom e = by (checkSheet s) refl (sheet
         let d = p .depth in (
           events S (c .cells) q (marks S (c .cells) q) (counts S (c .cells) q),
           record {
+            ran = ap (λ (c : Counts). events S (c .cells) q (marks S (c .cells) q) (counts S (c .cells) q)) (sound-counts s c h);
             tapeLength = ap (λ (x : Outcome). x .tapeLength) (p .planned) ∙ ap length (sym t);
             out = ap (λ (x : Outcome). x .out) (p .planned) ∙ ap (λ (b : List ℕ). b ++ drop (length b) o) (sym t);
           },

@@ -1,38 +1,40 @@
 -- CONTROLLED OPPOSITES: plans of rules that are changed in one place. Each leaves a trace that differs from the rules' in that place, and demand 3 is false of it.
 --     load left out at a limit · proxy with the wrong box · culling by the wrong edge · skipping on one side only · a member skipped at a circle · a path listed twice · a proxy dropped too early
--- Beside each stands the trace that the rules leave. Assumes nothing.
-use mathlib.Core.Path.{_≡_, refl, ap, subst}
+-- Beside each stands the trace that the rules leave. Last, events that are not written: a limit invented covers what follows it, so `IsTape` ties the trace to the rules.
+-- Assumes nothing.
+use mathlib.Core.Path.{_≡_, refl, sym, ap, _∙_, subst}
 use mathlib.Core.Logic.{_⊎_, inl, inr}
 use mathlib.Core.Bool.{Bool, false}
-use mathlib.Core.List.{[], _∷_}
+use mathlib.Core.List.{List, [], _∷_}
 use Prim.Native.Nat.{ℕ, _+_, _≤_, _<_}
 use native.Mathlib.Omega.{arith}
-use lib.ListN.{replicate}
+use lib.ListN.{length, replicate}
 use lib.IntN.{negsuc}
 use lib.Ieee.{fin}
 use Rattle.geometry.specs.declared.bbox.WorldBBox.{WorldBBox}
 use Rattle.geometry.specs.Placement.{IDENTITY}
-use Rattle.records.specs.declared.PreparedSource.the-variants.{Cell}
+use Rattle.records.specs.declared.PreparedSource.the-variants.{Node, Reference, Cell}
 use Rattle.records.specs.declared.PreparedText.{PreparedText}
 use Rattle.records.specs.declared.PreparedGeometry.{PreparedGeometry}
 use Rattle.records.specs.declared.PreparedReference.{PreparedReference}
-use Rattle.layout.specs.Sheet.{CellRecord, Sheet}
+use Rattle.layout.specs.Sheet.{NodeRecord, CellRecord, Sheet}
 use Rattle.exact.specs.Placement.{ExactPlacement, identity}
 use Rattle.exact.specs.Box.{IntegerBox, Holds, IsBox, boxOf}
 use Rattle.exact.specs.Screen.{isUnderOnePixel}
 use Rattle.exact.proofs.Floats.Reading.{integerOf-same}
-use Rattle.rules.specs.Event.{Event, batch, text, point, proxy, droppedProxy, skippedMember, skippedBatch, culledReference, culledBatch, nodeGridLimit, detailCell, totals, batchAt, textAt, referenceAt, member, emptyPlan}
+use Rattle.rules.specs.Event.{Event, batch, text, point, proxy, droppedProxy, skippedMember, skippedBatch, culledReference, culledBatch, nodeGridLimit, detailCell, totals, batchAt, textAt, referenceAt, member, pointAt, emptyPlan}
 use Rattle.rules.specs.World.{Query}
+use Rattle.rules.specs.Outcome.{Outcome}
 use Rattle.rules.proofs.Cases.Opened.{opened}
-use Rattle.rules.proofs.Cases.Samples.{whole, spot, page, sheetOfLists, batchOf, textAtSpot, refer, cellOf, viewing}
-use Rattle.cover.specs.Path.{Path, Item, aBatch, aText, memberAt, to-batch, to-text, to-reference, through-member, at-batch, at-text, step, LeadsTo}
+use Rattle.rules.proofs.Cases.Samples.{whole, spot, page, sheetOfLists, batchOf, textAtSpot, nodeOf, refer, cellOf, viewing}
+use Rattle.cover.specs.Path.{Path, Item, aBatch, aText, aPoint, memberAt, to-batch, to-text, to-reference, through-member, at-batch, at-text, step, LeadsTo, Reaches, at-root, further}
 use Rattle.cover.specs.View.{textPosition, WithinBox, InView}
 use Rattle.cover.specs.Trace.{Trace, events, All, and-then, Any, here, before, text-record}
 use Rattle.geometry.specs.Bbox.{sourceIsDegenerate}
 use Rattle.geometry.specs.Screen.{screenSize}
-use Rattle.cover.specs.Covered.{UnderOnePixel, Lists, lists-batch, lists-text, lists-point, IsSkip, batch-skip, Skipped, skipped-member, skipped-batch, Covers, listed, within-proxy, within-dropped-proxy, in-skipped, follows}
-use Rattle.cover.specs.Demand3.{LosesNothing}
-use Rattle.cover.proofs.Examples.Lists.{whole-same, box-holds, withoutTotals}
+use Rattle.cover.specs.Covered.{UnderOnePixel, Lists, lists-batch, lists-text, lists-point, IsSkip, batch-skip, Skipped, skipped-member, skipped-batch, BareNodeGrid, bare-node-grid, MeetsLimit, meets-limit, Covers, Covered, listed, within-proxy, within-dropped-proxy, in-skipped, follows}
+use Rattle.cover.specs.Demand3.{LosesNothing, eventsOf, IsTape}
+use Rattle.cover.proofs.Examples.Lists.{whole-same, box, box-holds, withoutTotals}
 
 -- ---- how an event covers a path, by the event
 
@@ -251,3 +253,54 @@ skipped-at-circle l = by (l .covered roundPath (aText 0 label once) round-leads 
     by (here c) = let k = ap steps ((reason circular deep c) .0) in let y : ⊥ = omega arith in y
     by (before (here c)) = reason circular deep c
     by (before (before a)) = elim a [ ]
+
+-- ---- a grid of two bare nodes, each with one point
+
+abbrev dot : NodeRecord
+dot = nodeOf (spot 10 20 ∷ [])
+
+abbrev dots : PreparedReference
+dots = refer 1 2 0 40 (Node 0) (box 10 20 10 20)
+
+abbrev dottedCell : CellRecord
+dottedCell = cellOf 0 (page 100 100) [] [] [] (0 ∷ [])
+
+abbrev dotted : Sheet
+dotted = sheetOfLists [] [] (dot ∷ []) (dots ∷ []) (dottedCell ∷ [])
+
+-- the rules list both points
+abbrev bothDots : Trace
+bothDots = (referenceAt 0 ∷ member 0 1 ∷ pointAt 0 ∷ [], point 1 2 (spot 10 60)) ∷ (referenceAt 0 ∷ member 0 0 ∷ pointAt 0 ∷ [], point 1 2 (spot 10 20)) ∷ ([], detailCell) ∷ []
+
+dots-plan : withoutTotals (events dotted 1 deep (replicate 5 0) (replicate 3 0)) ≡ bothDots
+unfolding opened
+dots-plan = refl
+
+-- the second point left out, and a limit invented at the first member
+abbrev invented : Trace
+invented = (referenceAt 0 ∷ member 0 0 ∷ [], nodeGridLimit) ∷ (referenceAt 0 ∷ member 0 0 ∷ pointAt 0 ∷ [], point 1 2 (spot 10 20)) ∷ ([], detailCell) ∷ []
+
+reaches-dots : Reaches dotted 0 (referenceAt 0 ∷ []) (Reference 0) identity
+reaches-dots = further at-root (to-reference {n = 0} {i = 0} {c = dottedCell} refl (omega arith))
+
+bare : BareNodeGrid dotted deep (referenceAt 0 ∷ []) dots
+bare = bare-node-grid reaches-dots refl refl
+
+-- the limit is one that the words allow, and the second point follows it
+invented-meets : MeetsLimit dotted deep (referenceAt 0 ∷ member 0 0 ∷ [])
+invented-meets = meets-limit {column = 0} {row = 0} bare (omega arith) (omega arith)
+
+invented-covers : Covered dotted deep (referenceAt 0 ∷ member 0 1 ∷ pointAt 0 ∷ []) (aPoint 0 dot 0 (memberAt identity dots 0 1)) invented
+invented-covers = here (follows {column = 0} {row = 0} 0 1 (pointAt 0 ∷ []) bare (inr (refl, omega arith)) refl)
+
+abbrev newest : Trace → Event
+newest [] = detailCell
+newest (x ∷ l) = x .1
+
+-- but it is not what the rules leave, as `IsTape` asks
+limit-invented : withoutTotals (events dotted 1 deep (replicate 5 0) (replicate 3 0)) ≡ invented → ⊥
+limit-invented e = let f : point 1 2 (spot 10 60) ≡ nodeGridLimit = ap newest (sym dots-plan ∙ e) in let z : _≡_ {A = ℕ} 0 1 = cc in let y : ⊥ = omega arith in y
+
+-- of any call: no event can be added, written or not
+event-added : (sheet : List ℕ) (q : Query) (o : Outcome) (lent : List ℕ) (x : Path × Event) → IsTape sheet q o (x ∷ eventsOf sheet q) lent → ⊥
+event-added sheet q o lent x t = let e = ap length (t .ran) in let y : ⊥ = omega arith in y

@@ -10,11 +10,13 @@ use Prim.Native.Nat.{ℕ, _≤_}
 use lib.Dec.{T as Yes}
 use lib.IntN.{pos}
 use lib.Ieee.{fin, le}
-use lib.ListN.{length, drop}
+use lib.ListN.{length, drop, replicate}
 use Rattle.layout.specs.Sheet.{Sheet, sheetOf}
 use Rattle.exact.specs.Screen.{zoomPower, ZoomWithin}
+use Rattle.sheet.specs.Count.{countsOf}
 use Rattle.rules.specs.Event.{Event, nodeGridLimit}
 use Rattle.rules.specs.World.{Query}
+use Rattle.rules.specs.Scratch.{countsNamed, marksNamed}
 use Rattle.rules.specs.Tape.{tape}
 use Rattle.rules.specs.Outcome.{Outcome, outcomeOf}
 use Rattle.cover.specs.Path.{Path, Item, LeadsTo}
@@ -56,12 +58,20 @@ Demand3OfRules = (S : Sheet) → Square S → TrueBoxes S → FewMembers S → (
 
 -- ---- of a call
 
--- the output is the records of these events, totals last, and then what was lent
-pub record IsTape (o : Outcome) (trace : Trace) (lent : List ℕ) : Type 0 where
+-- The events of the rules for the sheet of these bytes, with as many cells as the sheet has, from zeroed scratch of the size that question 11 names.
+abbrev pub eventsOf : List ℕ → Query → Trace
+eventsOf sheet q =
+    let cells = countsOf sheet .cells in
+    events (sheetOf sheet) cells q (replicate (marksNamed cells (q .depth)) 0) (replicate (countsNamed cells (q .depth)) 0)
+
+-- The trace is that of the rules, and the output is its records, totals last, and then what was lent. The records alone would leave open the events that
+-- are not written: a limit or a dropped proxy could be invented.
+pub record IsTape (sheet : List ℕ) (q : Query) (o : Outcome) (trace : Trace) (lent : List ℕ) : Type 0 where
+  pub ran : trace ≡ eventsOf sheet q
   pub tapeLength : o .tapeLength ≡ length (tape trace)
   pub out : o .out ≡ tape trace ++ drop (length (tape trace)) lent
 
 -- "an accepted plan": the refusal's number is 0. Questions 4, 9 and 10 give what is asked of columns and rows, of zoom above 0 and of the depth.
 abbrev pub Demand3 : Type 0
 Demand3 = (sheet : List ℕ) (q : Query) (out counts marks : List ℕ) → Square (sheetOf sheet) → TrueBoxes (sheetOf sheet) → WholeView (q .view) → Yes (le (q .zoom) (fin false 1 (pos zoomPower)))
-    → let o = outcomeOf sheet q out counts marks in o .number ≡ 0 → (trace : Trace) × IsTape o trace out × LosesNothing (sheetOf sheet) q trace
+    → let o = outcomeOf sheet q out counts marks in o .number ≡ 0 → (trace : Trace) × IsTape sheet q o trace out × LosesNothing (sheetOf sheet) q trace

@@ -1,14 +1,14 @@
 -- Which answer an outcome tells of: a refusal's number is not 0, a plan's tape is not empty, and it lies within the lent output.
 -- Assumes nothing.
-use mathlib.Core.Path.{_≡_, refl, sym, ap, _∙_}
+use mathlib.Core.Path.{_≡_, refl}
 use mathlib.Core.Bool.{Bool, true, false, cond, _&&_}
-use mathlib.Core.List.{List, [], _∷_, _++_}
-use Prim.Native.Nat.{ℕ, _+_, _≤_, _<_}
+use mathlib.Core.List.{List, [], _∷_}
+use Prim.Native.Nat.{ℕ, _≤_, _<_}
 use native.Mathlib.Omega.{arith}
 use lib.ListN.{length, drop, replicate, length-append}
 use lib.Dec.{leb, eqb}
 use borrow.Author.Tests.{eqb-false}
-use Rattle.fields.specs.Field.{widths, recordBytes}
+use Rattle.fields.specs.Field.{widths}
 use Rattle.fields.specs.Writing.{length-recordBytes}
 use Rattle.walk.specs.Offsets.{kindAt, offsets}
 use Rattle.walk.specs.Find.{countOf}
@@ -20,7 +20,7 @@ use Rattle.sheet.specs.declared.Checked.the-variants as checked
 use Rattle.sheet.specs.Count.{countsOf, tallied}
 use Rattle.sheet.specs.Links.{linkOk}
 use Rattle.sheet.specs.Check.{firstNo, firstUnnamed, checkSheet}
-use Rattle.rules.specs.declared.Answer.the-variants.{Planned, Refused}
+use Rattle.rules.specs.declared.Answer.the-variants.{Refused}
 use Rattle.rules.specs.declared.ScenePlan.{ScenePlan}
 use Rattle.rules.specs.Limits.{maxDepth}
 use Rattle.rules.specs.Event.{Event, emptyPlan, totals}
@@ -29,7 +29,7 @@ use Rattle.rules.specs.Scratch.{countsNamed, marksNamed}
 use Rattle.rules.specs.Push.{say}
 use Rattle.rules.specs.Plan.{visitRoot, plan}
 use Rattle.rules.specs.Tape.{encode, fieldsOf, noTag, note, tape}
-use Rattle.rules.specs.Outcome.{Outcome, outcome, viewOk, zoomOk, freshPlan, tapeOf, zeroed, delivered, soundOutcome, checkedOutcome, outcomeOf}
+use Rattle.rules.specs.Outcome.{Outcome, outcome, viewOk, zoomOk, freshPlan, tapeOf, delivered, soundOutcome, checkedOutcome, outcomeOf}
 
 -- ---- a sheet's refusal has a number
 

@@ -1,12 +1,12 @@
 -- A part of a text: lines of a tape, or one line.
 -- Assumes nothing.
 use mathlib.Core.Path.{_≡_, refl, sym, ap, ap₂, _∙_}
-use mathlib.Core.List.{List, [], _++_, append-nil}
-use Prim.Native.Nat.{ℕ, _+_, _≤_, _<_}
+use mathlib.Core.List.{List, _++_, append-nil}
+use Prim.Native.Nat.{ℕ, _≤_, _<_}
 use native.Mathlib.Nat.{zero-add}
 use native.Mathlib.Omega.{arith}
-use lib.ListN.{length, take, drop, length-append}
-use lib.Seq.{sets, sets-eq, take-at, drop-at, length-take-le, length-sets}
+use lib.ListN.{length, take, drop}
+use lib.Seq.{sets-eq, take-at, drop-at, length-take-le, length-sets}
 use Rattle.plan_text.specs.declared.lines.Lines.{Lines}
 use Rattle.plan_text.specs.Written.{Written, PutLines, lineRoom}
 use Rattle.plan_answer.specs.declared.Printed.{Printed}
@@ -20,9 +20,12 @@ lines-part {n} {from} {tape} {d} {e} {r} put same inside before room =
       all = put .all;
       rest = put .rest;
       within = omega (arith, put .within);
-      counts = sym (length-take-le (r .end) e (omega (arith, put .within)));
       goes = put .goes (omega (arith, length-take-le n tape inside)) room;
     }
+
+-- what is put is as long as it says
+pub part-length : {p : Printed} {tape d e : List ℕ} {from : ℕ} {r : Lines} → PutPart p tape from d e r → r .end ≡ length (take (r .end) e)
+part-length {e = e} {r = r} part = sym (length-take-le (r .end) e (part .within))
 
 -- `one-line`: the text of the answer is this line
 module _ (p : Printed) (tape line : List ℕ) (one-line : (at : ℕ) → textFrom p tape at ≡ lineFrom line at) where
@@ -38,6 +41,5 @@ module _ (p : Printed) (tape line : List ℕ) (one-line : (at : ℕ) → textFro
         all = ap₂ (λ (l m : List ℕ). l ++ m) taken (ap (textFrom p tape) (is .0) ∙ one-line 1) ∙ append-nil line ∙ sym (ap (textFrom p tape) start ∙ one-line 0);
         rest = ap₂ drop size split ∙ drop-at line (drop (length line) d) (length line) refl ∙ ap (λ (k : ℕ). drop k d) (sym size);
         within = omega (arith, same, size, written .ends, written .within);
-        counts = size ∙ sym (ap length taken);
         goes = omega (arith, is .0);
       }

@@ -13,11 +13,11 @@ use Rattle.plan_text.specs.Query.{readQuery}
 use Rattle.rules.specs.declared.Answer.{Answer}
 use Rattle.rules.specs.declared.Answer.the-variants.{Planned, Refused}
 use Rattle.rules.specs.Limits.{maxSceneObjects}
-use Rattle.rules.specs.World.{Query, queryOf}
+use Rattle.rules.specs.World.{queryOf}
 use Rattle.rules.specs.Outcome.{Outcome, outcome, outcomeOf}
 use Rattle.plan_answer.specs.declared.Printed.the-variants as printed
 use Rattle.plan_answer.specs.Text.{outcomeText, lineFrom}
-use Rattle.plan_answer.specs.Said.{Said, said, saidOfOutcome, saidOfQuery, saidOfFirst, saidLine, saidOf, saidOfRead}
+use Rattle.plan_answer.specs.Said.{Said, said, saidOfOutcome, saidOfQuery, saidOfFirst, saidOf, saidOfRead}
 use Rattle.plan_answer.proofs.Outcomes.{Told, told}
 
 -- ---- a plan, or a refusal: `call` is the contract of `planner::plan`, and `is` what the match found
@@ -69,6 +69,6 @@ module _ (b : List ℕ) (size : ℕ) (h o k m : List ℕ) where
   unfolding saidOfRead lineFrom
   too-long-read full = rw (le-leb _ _ full)
 
-  pub input-read : {x : Said} → size < length b → x ≡ saidOf (take size b) h o k m → x ≡ saidOfRead b size h o k m
+  pub input-read : size < length b → saidOf (take size b) h o k m ≡ saidOfRead b size h o k m
   unfolding saidOfRead
-  input-read room p = rw (lt-leb _ _ room) p
+  input-read room = rw (lt-leb _ _ room)

@@ -14,5 +14,4 @@ pub record PutPart (p : Printed) (tape : List ℕ) (from : ℕ) (d e : List ℕ)
   pub all : take (r .end) e ++ textFrom p tape (r .next) ≡ textFrom p tape from
   pub rest : drop (r .end) e ≡ drop (r .end) d
   pub within : r .end ≤ length e
-  pub counts : r .end ≡ length (take (r .end) e)
   pub goes : from < r .next

@@ -13,11 +13,13 @@ use Rattle.rules.specs.Limits.{maxSceneObjects}
 use Rattle.rules.specs.World.{queryOf}
 use Rattle.rules.specs.Outcome.{Outcome, outcomeOf}
 use Rattle.plan_answer.specs.declared.Printed.{Printed}
-use Rattle.plan_answer.specs.Text.{outcomeText, noQueryLine, tooLongLine, textFrom}
+use Rattle.plan_answer.specs.Text.{outcomeText, tapeEnd, noQueryLine, tooLongLine, textFrom}
 
--- the whole text, and the lent hidden layers, tape, counts and marks
+-- The whole text, the end of the tape (0 without one), and the lent hidden layers, tape, counts and marks.
+-- The end is said for itself: bytes behind the last record add no line, so the text alone does not tell it.
 pub record Said : Type 0 where
   pub text : List ℕ
+  pub end : ℕ
   pub hidden : List ℕ
   pub tape : List ℕ
   pub counts : List ℕ
@@ -25,10 +27,10 @@ pub record Said : Type 0 where
 
 -- what a call answered and left
 abbrev pub said : Printed → List ℕ → List ℕ → List ℕ → List ℕ → Said
-said r h o k m = record { text = textFrom r o 0; hidden = h; tape = o; counts = k; marks = m }
+said r h o k m = record { text = textFrom r o 0; end = tapeEnd r; hidden = h; tape = o; counts = k; marks = m }
 
 abbrev pub saidOfOutcome : Outcome → List ℕ → Said
-saidOfOutcome c h = record { text = outcomeText c; hidden = h; tape = c .out; counts = c .counts; marks = c .marks }
+saidOfOutcome c h = record { text = outcomeText c; end = c .tapeLength; hidden = h; tape = c .out; counts = c .counts; marks = c .marks }
 
 -- "reads one query .. and then the sheet"
 unfoldable pub saidOfQuery : List ℕ → QueryRecord → List ℕ → List ℕ → List ℕ → List ℕ → Said
@@ -36,7 +38,7 @@ saidOfQuery s q h o k m = saidOfOutcome (outcomeOf (drop (q .sheet) s) (queryOf 
 
 -- a line, and nothing touched but the hidden layers
 abbrev pub saidLine : List ℕ → List ℕ → List ℕ → List ℕ → List ℕ → Said
-saidLine line h o k m = record { text = line; hidden = h; tape = o; counts = k; marks = m }
+saidLine line h o k m = record { text = line; end = 0; hidden = h; tape = o; counts = k; marks = m }
 
 -- by what the input begins with, and the hidden layers that were read
 abbrev pub saidOfFirst : List ℕ → FirstRecord × List ℕ → List ℕ → List ℕ → List ℕ → Said

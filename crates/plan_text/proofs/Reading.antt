@@ -1,6 +1,6 @@
--- The three ends of a reading of the query, by what the code tested on the way.
+-- The reading of the query: its tests, its three ends by what the code tested on the way, and what those have who go on.
 -- Assumes nothing.
-use mathlib.Core.Path.{_≡_, refl, sym, ap, ap₂, _∙_}
+use mathlib.Core.Path.{_≡_, refl, sym, ap, _∙_}
 use mathlib.Core.Bool.{Bool, true, false, cond, not, _&&_}
 use mathlib.Core.List.{List}
 use Prim.Native.Nat.{ℕ, _-_, _/_, _%_, _≤_, _<_}
@@ -8,7 +8,7 @@ use native.Mathlib.Omega.{arith}
 use lib.ListN.{length}
 use lib.Seq.{sets, length-sets}
 use lib.Dec.{leb, eqb}
-use borrow.Author.Tests.{le-leb, lt-leb, leb-true, not-true, not-false}
+use borrow.Author.Tests.{le-leb, lt-leb, eq-eqb, ne-eqb, leb-true, not-true, not-false}
 use Rattle.walk.specs.Offsets.{lengthAt, kindAt}
 use Rattle.rules.specs.declared.SceneOptions.{SceneOptions}
 use Rattle.plan_text.specs.declared.query.QueryRecord.{QueryRecord}
@@ -29,6 +29,36 @@ third-true a b true d e h = refl
 third-true true true false d e h = absurd (false-is-not-true h)
 third-true true false false d e h = absurd (false-is-not-true h)
 third-true false b false d e h = absurd (false-is-not-true h)
+
+and-false : (a : Bool) → (a && false) ≡ false
+and-false true = refl
+and-false false = refl
+
+-- ---- whether there is a whole query, test by test: any no decides
+
+module _ (s : List ℕ) where
+  pub too-short : length s < queryLength → false ≡ wholeQuery s
+  unfolding wholeQuery
+  too-short h = rw (lt-leb _ _ h)
+
+  pub length-below : lengthAt s 0 < queryLength → false ≡ wholeQuery s
+  unfolding wholeQuery
+  length-below h = rw (lt-leb queryLength (lengthAt s 0) h, and-false)
+
+  pub length-past : length s < lengthAt s 0 → false ≡ wholeQuery s
+  unfolding wholeQuery
+  length-past h = rw (lt-leb (lengthAt s 0) (length s) h, and-false)
+
+  pub length-uneven : ((lengthAt s 0 - queryLength) % 4 ≡ 0 → ⊥) → false ≡ wholeQuery s
+  unfolding wholeQuery
+  length-uneven h = rw (ne-eqb _ 0 h, and-false)
+
+  -- four times yes: the kind decides
+  pub kind-decides : queryLength ≤ length s → queryLength ≤ lengthAt s 0 → lengthAt s 0 ≤ length s → (lengthAt s 0 - queryLength) % 4 ≡ 0 → eqb (kindAt s 0) queryKind ≡ wholeQuery s
+  unfolding wholeQuery
+  kind-decides there below past even = rw (le-leb _ _ there, le-leb _ _ below, le-leb _ _ past, eq-eqb _ _ even)
+
+-- ---- the three ends
 
 -- `whole`: what `is_query` answered
 module _ (s h : List ℕ) {b : Bool} (whole : b ≡ wholeQuery s) where

@@ -1,13 +1,13 @@
 -- The lines of a tape, record by record.
 -- Assumes nothing.
-use mathlib.Core.Path.{_≡_, refl, sym, ap, ap₂, _∙_}
-use mathlib.Core.List.{List, [], _∷_, _++_, append-nil, append-assoc}
+use mathlib.Core.Path.{_≡_, sym, ap, _∙_}
+use mathlib.Core.List.{List, _++_, append-assoc}
 use Prim.Native.Nat.{ℕ, _+_, _-_, _≤_, _<_}
 use native.Mathlib.Omega.{arith}
 use lib.ListN.{length, take, drop, length-append, length-drop}
-use lib.Seq.{sets, sets-eq, take-all, take-at, drop-at, drop-drop, length-take-le}
+use lib.Seq.{sets-eq, take-all, take-at, drop-at, drop-drop, length-take-le}
 use borrow.Author.Tests.{lt-ltb, le-ltb}
-use Rattle.walk.specs.Offsets.{lengthAt, offsetsFrom, offsets-end, offsets-more, offsets-bad, by-order}
+use Rattle.walk.specs.Offsets.{lengthAt, offsets-end, offsets-more, offsets-bad, by-order}
 use Rattle.plan_text.specs.Text.{lineOf, nextRecord, linesAt, linesFrom}
 use Rattle.plan_text.specs.Written.{Written, lineRoom}
 

@@ -9,7 +9,6 @@ use lib.ListN.{length}
 use lib.Seq.{sets}
 use lib.Dec.{leb, eqb}
 use Rattle.fields.specs.Field.{uintAt, f64At}
-use Rattle.geometry.specs.declared.bbox.WorldBBox.{WorldBBox}
 use Rattle.walk.specs.Offsets.{lengthAt, kindAt}
 use Rattle.rules.specs.declared.SceneOptions.{SceneOptions}
 use Rattle.plan_text.specs.declared.query.QueryRecord.{QueryRecord}

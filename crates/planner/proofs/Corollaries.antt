@@ -1,4 +1,4 @@
--- DEMAND 3 OF `planner::plan`: the bytes that an accepted call leaves are the tape of a plan that loses nothing.
+-- DEMAND 3 OF `planner::plan`: the bytes that an accepted call leaves are the tape of the rules' events, and these lose nothing.
 -- `met` is the equation of the entry point's contract, word for word, so that whoever has called `plan` has it.
 -- Assumes nothing.
 use mathlib.Core.Path.{_≡_, sym, ap, _∙_, subst}
@@ -27,7 +27,7 @@ module _ (sheet : List ℕ) (query : SceneOptions) (hidden out counts marks : Li
       → (a : Answer) (out₁ counts₁ marks₁ : List ℕ)
       → (met : outcome a out₁ counts₁ marks₁ ≡ outcomeOf sheet (queryOf query hidden maxSceneObjects) out counts marks)
       → (accepted : numberOf a ≡ 0)
-      → (trace : Trace) × IsTape (outcome a out₁ counts₁ marks₁) trace out × LosesNothing (sheetOf sheet) (queryOf query hidden maxSceneObjects) trace
+      → (trace : Trace) × IsTape sheet (queryOf query hidden maxSceneObjects) (outcome a out₁ counts₁ marks₁) trace out × LosesNothing (sheetOf sheet) (queryOf query hidden maxSceneObjects) trace
   plan-loses-nothing square true-boxes view zoom a out₁ counts₁ marks₁ met accepted =
       let d = demand-3 sheet (queryOf query hidden maxSceneObjects) out counts marks square true-boxes view zoom (sym (ap (λ (o : Outcome). o .number) met) ∙ accepted) in
-      (d .0, subst (λ (o : Outcome). IsTape o (d .0) out) (sym met) (d .1), d .2)
+      (d .0, subst (λ (o : Outcome). IsTape sheet (queryOf query hidden maxSceneObjects) o (d .0) out) (sym met) (d .1), d .2)

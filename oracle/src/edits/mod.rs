@@ -1,6 +1,6 @@
-// What is taken from the seed Rust, and every change made to it: tables only.
+// What is taken from the Rust source, and every change made to it: tables only.
 // Read twice: by build.rs, which applies and asserts them, and by the subcommand `edits`, which prints them.
-// A find text quotes no more of the seed than is needed to meet its place.
+// A find text quotes no more of the Rust source than is needed to meet its place.
 
 // Only build.rs cuts and merges texts.
 #[allow(dead_code)]

@@ -1,4 +1,4 @@
-// Builds the seed's prepared library from a sheet that was read, in place of `PreparedLibrary::build`,
+// Builds the Rust's prepared library from a sheet that was read, in place of `PreparedLibrary::build`,
 // and turns a finished plan into lists of patterns. Spliced by build.rs into each copy of the planner.
 // A cell's name is its number in decimal; a text's value is its number, so that a listed text can be told.
 

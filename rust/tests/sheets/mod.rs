@@ -9,15 +9,29 @@ pub fn record(kind: u16, body: &[u8]) -> Vec<u8> {
 }
 
 fn halves(values: &[u16]) -> Vec<u8> {
-    values.iter().flat_map(|value| value.to_le_bytes()).collect()
+    values
+        .iter()
+        .flat_map(|value| value.to_le_bytes())
+        .collect()
 }
 
 fn floats(values: &[f64]) -> Vec<u8> {
-    values.iter().flat_map(|value| value.to_le_bytes()).collect()
+    values
+        .iter()
+        .flat_map(|value| value.to_le_bytes())
+        .collect()
 }
 
 pub fn batch(layer: u16, elements: u32, bbox: [f64; 4]) -> Vec<u8> {
-    record(1, &[halves(&[layer, 0]), elements.to_le_bytes().to_vec(), floats(&bbox)].concat())
+    record(
+        1,
+        &[
+            halves(&[layer, 0]),
+            elements.to_le_bytes().to_vec(),
+            floats(&bbox),
+        ]
+        .concat(),
+    )
 }
 
 pub fn text(layer: u16, origin: [f64; 2]) -> Vec<u8> {
@@ -25,7 +39,10 @@ pub fn text(layer: u16, origin: [f64; 2]) -> Vec<u8> {
 }
 
 pub fn node(layer: u16, node_type: u16, points: &[[f64; 2]]) -> Vec<u8> {
-    record(3, &[halves(&[layer, node_type]), floats(&points.concat())].concat())
+    record(
+        3,
+        &[halves(&[layer, node_type]), floats(&points.concat())].concat(),
+    )
 }
 
 /// One member of a cell at an origin, with the cell's box.
@@ -41,11 +58,20 @@ pub fn cell(bbox: Option<[f64; 4]>, lists: [&[u32]; 4]) -> Vec<u8> {
     body.extend(1u64.to_le_bytes());
     body.extend(floats(&bbox.unwrap_or_default()));
     body.extend(halves(&lists.map(|list| list.len() as u16)));
-    body.extend(lists.concat().iter().flat_map(|number| number.to_le_bytes()));
+    body.extend(
+        lists
+            .concat()
+            .iter()
+            .flat_map(|number| number.to_le_bytes()),
+    );
     record(5, &body)
 }
 
 /// "Cell 0 has box 0, 0, 100, 100 and one text at (10, 20), layer 1"
 pub fn worked() -> Vec<u8> {
-    [text(1, [10.0, 20.0]), cell(Some([0.0, 0.0, 100.0, 100.0]), [&[], &[0], &[], &[]])].concat()
+    [
+        text(1, [10.0, 20.0]),
+        cell(Some([0.0, 0.0, 100.0, 100.0]), [&[], &[0], &[], &[]]),
+    ]
+    .concat()
 }

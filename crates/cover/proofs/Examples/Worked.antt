@@ -28,8 +28,8 @@ use Rattle.rules.proofs.Cases.OpenedSheet.{openedSheet}
 use Rattle.rules.proofs.Cases.Samples.{whole, spot, page, textAtSpot, viewing}
 use Rattle.cover.specs.Square.{SquareVector, SquareBounds, Square}
 use Rattle.cover.specs.TrueBoxes.{Encloses, TrueCellBox, TrueBoxes}
-use Rattle.cover.specs.Trace.{Trace, events}
-use Rattle.cover.specs.Demand3.{LosesNothing, IsTape}
+use Rattle.cover.specs.Trace.{Trace}
+use Rattle.cover.specs.Demand3.{LosesNothing, eventsOf, IsTape}
 use Rattle.cover.proofs.Reading.{box-is}
 use Rattle.cover.proofs.Call.{demand-3}
 use Rattle.cover.proofs.Examples.Lists.{only, nothing-there, square-spot, Ordered, square-box, point-inside, square-bounds, boxed-encloses, withoutTotals}
@@ -122,7 +122,7 @@ abbrev query : Query
 query = viewing (page 100 100) (whole 1) 1 maxSceneObjects
 
 -- the text's path is listed
-pub worked-plan : withoutTotals (events sheet 1 query (replicate 3 0) (replicate 1 0)) ≡ (textAt 0 ∷ [], text 0 (spot 10 20)) ∷ ([], detailCell) ∷ []
+pub worked-plan : withoutTotals (eventsOf workedSheet query) ≡ (textAt 0 ∷ [], text 0 (spot 10 20)) ∷ ([], detailCell) ∷ []
 unfolding workedSheet workedText workedCell opened openedSheet
 worked-plan = refl
 
@@ -134,7 +134,7 @@ accepted : (outcomeOf workedSheet query out (replicate 1 8) (replicate 3 9)) .nu
 unfolding workedSheet workedText workedCell opened openedSheet
 accepted = refl
 
-pub worked-loses-nothing : (trace : Trace) × IsTape (outcomeOf workedSheet query out (replicate 1 8) (replicate 3 9)) trace out × LosesNothing sheet query trace
+pub worked-loses-nothing : (trace : Trace) × IsTape workedSheet query (outcomeOf workedSheet query out (replicate 1 8) (replicate 3 9)) trace out × LosesNothing sheet query trace
 worked-loses-nothing = demand-3 workedSheet query out (replicate 1 8) (replicate 3 9) square true-boxes (box-is (page 100 100) (square-box 0 0 100 100 ordered)) zoom accepted
   where
     zoom : Yes (le (whole 1) (fin false 1 (pos zoomPower)))

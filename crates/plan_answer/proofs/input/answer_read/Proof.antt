@@ -1,5 +1,5 @@
 -- `plan_answer::input::answer_read` meets its contract. Assumes nothing.
-use mathlib.Core.Path.{sym}
+use mathlib.Core.Path.{sym, _∙_}
 use native.Mathlib.Omega.{arith}
 use lib.Seq.{length-take-le}
 use denote.Ref.{now}
@@ -11,20 +11,20 @@ use Rattle.plan_answer.proofs.input.answer_read.Tie as tie
 full : tie.Need-returns
 full c =
     let a = c .before .before .before .before .before .before .args in
-    (too-long-read (now (a .buffer)) (a .size) (now (a .hidden)) (now (a .tape)) (now (a .counts)) (now (a .marks)) (c .if1 .taken), omega arith)
+    (too-long-read (now (a .buffer)) (a .size) (now (a .hidden)) (now (a .tape)) (now (a .counts)) (now (a .marks)) (omega arith), omega arith)
 
-slice-aggregate-answer : tie.Need-slice-aggregate-answer
-slice-aggregate-answer c = sym (length-take-le _ _ (omega arith))
+part-length : tie.Need-slice-aggregate-answer
+part-length c = sym (length-take-le _ _ (omega arith))
 
 answered : tie.Need-returns-2
 answered c =
-    let answered = c .before .before .before .before .before .before .before .before .answer in
+    let call = c .before .before .before .before .before .before .before .before .answer in
     let at-else = c .before .before .before .before .before .before .before .before .before .before .before .before .before .before in
     let a = at-else .before .before .before .before .before .before .args in
-    (input-read (now (a .buffer)) (a .size) (now (a .hidden)) (now (a .tape)) (now (a .counts)) (now (a .marks)) (at-else .if1 .left) (answered .ensures .0), answered .ensures .1)
+    (call .ensures .0 ∙ input-read (now (a .buffer)) (a .size) (now (a .hidden)) (now (a .tape)) (now (a .counts)) (now (a .marks)) (omega arith), call .ensures .1)
 
 pub answer-read-spec : {M : Type 1} → statement M
 answer-read-spec =
     tie.close
-    (tie.spec full slice-aggregate-answer (λ c κs. search needs) (λ c. search needs) (λ c. search needs)
+    (tie.spec full part-length (λ c κs. search needs) (λ c. search needs) (λ c. search needs)
     (λ c. search needs) (λ c. search needs) answered)

@@ -5,6 +5,7 @@ use Prim.Native.Nat.{_-_}
 use native.Mathlib.Omega.{arith}
 use lib.ListN.{length}
 use borrow.Author.Needs.{needs}
+use Rattle.plan_answer.proofs.Parts.{part-length}
 use Rattle.plan_answer.proofs.print.print_answer.Statement.{statement}
 use Rattle.plan_answer.proofs.print.print_answer.Tie as tie
 
@@ -21,7 +22,7 @@ prefix : tie.Need-slice-reshare-prefix-write-all Inv-loop μ-loop
 prefix c = c .before .before .put-part .ensures .within
 
 prefix-length : tie.Need-slice-aggregate-write-all Inv-loop μ-loop
-prefix-length c = c .before .before .before .put-part .ensures .counts
+prefix-length c = part-length (c .before .before .before .put-part .ensures)
 
 goes-further : tie.Need-loop-less Inv-loop μ-loop
 goes-further c = omega (arith, c .before .before .before .before .put-part .ensures .goes)

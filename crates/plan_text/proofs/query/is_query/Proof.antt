@@ -1,35 +1,31 @@
 -- `plan_text::query::is_query` meets its contract, test by test. Assumes nothing.
-use borrow.Author.Tests.{lt-leb, le-leb, eq-eqb, ne-eqb}
+use mathlib.Core.Path.{ap, _∙_}
+use Prim.Native.Nat.{ℕ}
+use native.Mathlib.Omega.{arith}
+use lib.Dec.{eqb}
 use borrow.Author.Needs.{needs}
-use Rattle.plan_text.specs.Query.{wholeQuery}
+use Rattle.plan_text.proofs.Reading.{too-short, length-below, length-past, length-uneven, kind-decides}
 use Rattle.plan_text.proofs.query.is_query.Statement.{statement}
 use Rattle.plan_text.proofs.query.is_query.Tie as tie
 
-too-short : tie.Need-returns
-unfolding wholeQuery
-too-short c = rw (lt-leb _ _ (c .if1 .taken))
+short : tie.Need-returns
+short c = too-short _ (omega arith)
 
-length-below : tie.Need-returns-2
-unfolding wholeQuery
-length-below c = rw (le-leb _ _ (c .before .before .if1 .left), ← c .before .u32-at .ensures, lt-leb _ _ (c .if2 .taken))
+below : tie.Need-returns-2
+below c = length-below _ (omega arith)
 
-length-past : tie.Need-returns-3
-unfolding wholeQuery
-length-past c =
-    rw (le-leb _ _ (c .before .before .before .if1 .left), ← c .before .before .u32-at .ensures, le-leb _ _ (c .before .if2 .left), lt-leb _ _ (c .if3 .taken))
+past : tie.Need-returns-3
+past c = length-past _ (omega arith)
 
-length-odd : tie.Need-returns-4
-unfolding wholeQuery
-length-odd c =
-    rw (le-leb _ _ (c .before .before .before .before .if1 .left), ← c .before .before .before .u32-at .ensures, le-leb _ _ (c .before .before .if2 .left), le-leb _ _ (c .before .if3 .left), ne-eqb _ _ (c .if4 .taken))
+uneven : tie.Need-returns-4
+uneven c = length-uneven _ (rw (c .before .before .before .u32-at .ensures) at (c .if4 .taken))
 
-kind-decides : tie.Need-returns-5
-unfolding wholeQuery
-kind-decides c =
-    rw (le-leb _ _ (c .before .before .before .before .before .if1 .left), ← c .before .before .before .before .u32-at .ensures, le-leb _ _ (c .before .before .before .if2 .left), le-leb _ _ (c .before .before .if3 .left), eq-eqb _ _ (c .before .if4 .left), ← c .u16-at .ensures)
+kind : tie.Need-returns-5
+kind c =
+    let read = c .before .before .before .before .u32-at .ensures in
+    ap (λ (k : ℕ). eqb k 20) (c .u16-at .ensures) ∙ kind-decides _ (omega arith) (omega arith) (omega arith) (rw read at (c .before .if4 .left))
 
 pub is-query-spec : {M : Type 1} → statement M
 is-query-spec =
     tie.close
-    (tie.spec too-short (λ c κs. search needs) (λ c. search needs) length-below length-past length-odd
-    (λ c κs. search needs) kind-decides)
+    (tie.spec short (λ c κs. search needs) (λ c. search needs) below past uneven (λ c κs. search needs) kind)
