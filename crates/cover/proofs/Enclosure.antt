@@ -14,7 +14,7 @@ use Rattle.records.specs.declared.PreparedSource.the-variants.{Geometry, Text, 
 use Rattle.records.specs.declared.PreparedGeometry.{PreparedGeometry}
 use Rattle.records.specs.declared.PreparedText.{PreparedText}
 use Rattle.records.specs.declared.PreparedReference.{PreparedReference}
-use Rattle.layout.specs.Sheet.{NodeRecord, CellRecord, Sheet}
+use Rattle.abstract_sheet.specs.Sheet.{NodeRecord, CellRecord, Sheet}
 use Rattle.exact.specs.Placement.{ExactPlacement, vectorOf}
 use Rattle.exact.specs.Member.{gridOf}
 use Rattle.exact.specs.Box.{IntegerBox, pointBox, SameBox, Inside, boxOf, place, referenceBox}
@@ -23,7 +23,7 @@ use Rattle.exact.proofs.Boxes.Reading.{boxOf-same}
 use Rattle.exact.proofs.Boxes.Place.{place-holds, place-encloses}
 use Rattle.exact.proofs.Boxes.Reference.{placed-reference-box-encloses-member}
 use Rattle.exact.proofs.Boxes.ReferenceRounded.{corners-bbox-exact, reference-bbox-present}
-use Rattle.rules.specs.Event.{Step}
+use Rattle.plan_rules.specs.Event.{Step}
 use Rattle.cover.specs.Path.{Path, Item, aBatch, aText, aPoint, memberAt, StepLeads, to-batch, to-text, to-node, to-reference, through-member, Leads, at-batch, at-text, at-point, step}
 use Rattle.cover.specs.Square.{Square, FewMembers}
 use Rattle.cover.specs.TrueBoxes.{Encloses, EnclosesBounds, IsThere, SameBounds, IsLeastBox, referenceBounds, cellBounds, TrueSourceBox, TrueBoxes}

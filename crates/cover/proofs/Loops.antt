@@ -7,7 +7,7 @@ use Prim.Native.Nat.{ℕ, zero, suc, _+_, _≤_, _<_}
 use native.Mathlib.Omega.{arith}
 use lib.Dec.{leb, leb→le, nleb→lt}
 use lib.Dec.{T as Yes}
-use Rattle.rules.specs.World.{World, Flow, go, halt, bind, ending, each}
+use Rattle.plan_rules.specs.World.{World, Flow, go, halt, bind, ending, each}
 
 pub at-or-below : (i a : ℕ) → i ≤ a → (i ≡ a) ⊎ (i < a)
 at-or-below i a h = by (leb (suc i) a) (leb→le (suc i) a) (nleb→lt (suc i) a)

@@ -17,16 +17,16 @@ use Rattle.records.specs.declared.PreparedSource.the-variants.{Node, Reference,
 use Rattle.records.specs.declared.PreparedText.{PreparedText}
 use Rattle.records.specs.declared.PreparedGeometry.{PreparedGeometry}
 use Rattle.records.specs.declared.PreparedReference.{PreparedReference}
-use Rattle.layout.specs.Sheet.{NodeRecord, CellRecord, Sheet}
+use Rattle.abstract_sheet.specs.Sheet.{NodeRecord, CellRecord, Sheet}
 use Rattle.exact.specs.Placement.{ExactPlacement, identity}
 use Rattle.exact.specs.Box.{IntegerBox, Holds, IsBox, boxOf}
 use Rattle.exact.specs.Screen.{isUnderOnePixel}
 use Rattle.exact.proofs.Floats.Reading.{integerOf-same}
-use Rattle.rules.specs.Event.{Event, batch, text, point, proxy, droppedProxy, skippedMember, skippedBatch, culledReference, culledBatch, nodeGridLimit, detailCell, totals, batchAt, textAt, referenceAt, member, pointAt, emptyPlan}
-use Rattle.rules.specs.World.{Query}
-use Rattle.rules.specs.Outcome.{Outcome}
-use Rattle.rules.proofs.Cases.Opened.{opened}
-use Rattle.rules.proofs.Cases.Samples.{whole, spot, page, sheetOfLists, batchOf, textAtSpot, nodeOf, refer, cellOf, viewing}
+use Rattle.plan_rules.specs.Event.{Event, batch, text, point, proxy, droppedProxy, skippedMember, skippedBatch, culledReference, culledBatch, nodeGridLimit, detailCell, totals, batchAt, textAt, referenceAt, member, pointAt, emptyPlan}
+use Rattle.plan_rules.specs.World.{Query}
+use Rattle.plan_rules.specs.Outcome.{Outcome}
+use Rattle.plan_rules.proofs.Cases.Opened.{opened}
+use Rattle.plan_rules.proofs.Cases.Samples.{whole, spot, page, sheetOfLists, batchOf, textAtSpot, nodeOf, refer, cellOf, viewing}
 use Rattle.cover.specs.Path.{Path, Item, aBatch, aText, aPoint, memberAt, to-batch, to-text, to-reference, through-member, at-batch, at-text, step, LeadsTo, Reaches, at-root, further}
 use Rattle.cover.specs.View.{textPosition, WithinBox, InView}
 use Rattle.cover.specs.Trace.{Trace, events, All, and-then, Any, here, before, text-record}

@@ -7,18 +7,18 @@ use native.Mathlib.Nat.{zero-add}
 use native.Mathlib.Omega.{arith}
 use lib.Dec.{ltb→lt, nltb→le}
 use Rattle.geometry.specs.declared.bbox.WorldBBox.{WorldBBox}
-use Rattle.layout.specs.Sheet.{Sheet}
-use Rattle.rules.specs.declared.ScenePlan.{ScenePlan}
-use Rattle.rules.specs.Limits.{maxLoadProxies}
-use Rattle.rules.specs.Event.{Event, batch, text, point, proxy, droppedProxy, skippedMember, skippedBatch, culledReference, culledBatch, nodeGridLimit, detailCell, totals, Step, saturate, _⊞_, emptyPlan, amounts, after}
-use Rattle.rules.specs.World.{Query, world}
-use Rattle.rules.specs.Plan.{plan}
-use Rattle.rules.specs.Tape.{note}
-use Rattle.rules.proofs.Simulation.Premises.{Room}
-use Rattle.rules.proofs.Invariant.{plan-kept}
+use Rattle.abstract_sheet.specs.Sheet.{Sheet}
+use Rattle.plan_rules.specs.declared.ScenePlan.{ScenePlan}
+use Rattle.plan_rules.specs.Limits.{maxLoadProxies}
+use Rattle.plan_rules.specs.Event.{Event, batch, text, point, proxy, droppedProxy, skippedMember, skippedBatch, culledReference, culledBatch, nodeGridLimit, detailCell, totals, Step, saturate, _⊞_, emptyPlan, amounts, after}
+use Rattle.plan_rules.specs.World.{Query, world}
+use Rattle.plan_rules.specs.Plan.{plan}
+use Rattle.plan_rules.specs.Tape.{note}
+use Rattle.plan_rules.proofs.Simulation.Premises.{Room}
+use Rattle.plan_rules.proofs.Invariant.{plan-kept}
 use Rattle.cover.specs.Trace.{withPaths, enter, listedProxies}
 use Rattle.cover.specs.Covered.{DroppedWhenFull}
-use Rattle.cover.proofs.Ways.{Tagged, paths-proxies}
+use Rattle.cover.proofs.TagPaths.{Tagged, paths-proxies}
 
 -- with tags in place of paths
 abbrev pub TaggedDroppedWhenFull : Tagged → Type 0

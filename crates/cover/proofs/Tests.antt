@@ -7,7 +7,7 @@ use lib.Dec.{leb, eqb, eqb→eq, nleb→lt}
 use lib.Dec.{T as Yes}
 use lib.Ieee.{Float}
 use Rattle.geometry.specs.Screen.{shouldCollapseReference}
-use Rattle.rules.specs.World.{contains}
+use Rattle.plan_rules.specs.World.{contains}
 use Rattle.cover.specs.View.{Lacks}
 
 pub cond-case : {X : Type 0} (Q : X → Type 0) (c : Bool) (x y : X) → (Yes c → Q x) → (Yes (not c) → Q y) → Q (cond c x y)

@@ -18,13 +18,13 @@ use Rattle.records.specs.declared.PreparedSource.the-variants.{Geometry, Node, 
 use Rattle.records.specs.declared.PreparedGeometry.{PreparedGeometry}
 use Rattle.records.specs.declared.PreparedText.{PreparedText}
 use Rattle.records.specs.declared.PreparedReference.{PreparedReference}
-use Rattle.layout.specs.Sheet.{NodeRecord, Sheet}
+use Rattle.abstract_sheet.specs.Sheet.{NodeRecord, Sheet}
 use Rattle.exact.specs.Placement.{ExactPlacement, IsVector, IsPlacement}
 use Rattle.exact.specs.Box.{IntegerBox, IsBox, boxOf, place}
 use Rattle.exact.specs.Screen.{isUnderOnePixel}
-use Rattle.rules.specs.Limits.{maxLoadProxies}
-use Rattle.rules.specs.Event.{Event, batch, text, point, proxy, droppedProxy, skippedMember, skippedBatch, nodeGridLimit, member}
-use Rattle.rules.specs.World.{Query}
+use Rattle.plan_rules.specs.Limits.{maxLoadProxies}
+use Rattle.plan_rules.specs.Event.{Event, batch, text, point, proxy, droppedProxy, skippedMember, skippedBatch, nodeGridLimit, member}
+use Rattle.plan_rules.specs.World.{Query}
 use Rattle.cover.specs.Path.{Path, Item, aBatch, aText, aPoint, memberAt, Reaches, LeadsTo}
 use Rattle.cover.specs.View.{placedBatch, textPosition, pointPosition, WithinBox}
 use Rattle.cover.specs.Trace.{Trace, Any, IsRecord, listedProxies}

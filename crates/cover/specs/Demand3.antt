@@ -11,14 +11,14 @@ use lib.Dec.{T as Yes}
 use lib.IntN.{pos}
 use lib.Ieee.{fin, le}
 use lib.ListN.{length, drop, replicate}
-use Rattle.layout.specs.Sheet.{Sheet, sheetOf}
+use Rattle.abstract_sheet.specs.Sheet.{Sheet, sheetOf}
 use Rattle.exact.specs.Screen.{zoomPower, ZoomWithin}
-use Rattle.sheet.specs.Count.{countsOf}
-use Rattle.rules.specs.Event.{Event, nodeGridLimit}
-use Rattle.rules.specs.World.{Query}
-use Rattle.rules.specs.Scratch.{countsNamed, marksNamed}
-use Rattle.rules.specs.Tape.{tape}
-use Rattle.rules.specs.Outcome.{Outcome, outcomeOf}
+use Rattle.check_sheet.specs.Count.{countsOf}
+use Rattle.plan_rules.specs.Event.{Event, nodeGridLimit}
+use Rattle.plan_rules.specs.World.{Query}
+use Rattle.plan_rules.specs.Scratch.{countsNamed, marksNamed}
+use Rattle.plan_rules.specs.Tape.{tape}
+use Rattle.plan_rules.specs.Outcome.{Outcome, outcomeOf}
 use Rattle.cover.specs.Path.{Path, Item, LeadsTo}
 use Rattle.cover.specs.Square.{Square, FewMembers}
 use Rattle.cover.specs.TrueBoxes.{TrueBoxes}

@@ -11,10 +11,10 @@ use Rattle.records.specs.declared.PreparedSource.the-variants.{Geometry, Text, 
 use Rattle.records.specs.declared.PreparedGeometry.{PreparedGeometry}
 use Rattle.records.specs.declared.PreparedText.{PreparedText}
 use Rattle.records.specs.declared.PreparedReference.{PreparedReference}
-use Rattle.layout.specs.Sheet.{NodeRecord, CellRecord, Sheet}
+use Rattle.abstract_sheet.specs.Sheet.{NodeRecord, CellRecord, Sheet}
 use Rattle.exact.specs.Placement.{ExactPlacement, identity, _∘_}
 use Rattle.exact.specs.Member.{memberPlacement, gridOf}
-use Rattle.rules.specs.Event.{Step, batchAt, textAt, nodeAt, referenceAt, member, pointAt}
+use Rattle.plan_rules.specs.Event.{Step, batchAt, textAt, nodeAt, referenceAt, member, pointAt}
 
 -- the steps from the root on
 abbrev pub Path : Type 0

@@ -14,7 +14,7 @@ use Rattle.geometry.specs.Bbox.{bbox}
 use Rattle.records.specs.declared.PreparedGeometry.{PreparedGeometry}
 use Rattle.records.specs.declared.PreparedText.{PreparedText}
 use Rattle.records.specs.declared.PreparedReference.{PreparedReference}
-use Rattle.layout.specs.Sheet.{NodeRecord, CellRecord, Sheet}
+use Rattle.abstract_sheet.specs.Sheet.{NodeRecord, CellRecord, Sheet}
 use Rattle.exact.specs.Integer.{integer, Within}
 use Rattle.exact.specs.IsInteger.{IsInteger, integerOf}
 use Rattle.exact.specs.Member.{IsQuarterTurn}

@@ -5,11 +5,11 @@ use mathlib.Core.List.{List, [], _∷_, _++_}
 use Prim.Native.Nat.{ℕ, _+_}
 use Rattle.geometry.specs.declared.placement.DVec2.{DVec2}
 use Rattle.geometry.specs.declared.placement.Placement.{Placement}
-use Rattle.layout.specs.Sheet.{Sheet}
-use Rattle.rules.specs.Event.{Event, batch, text, point, Step, emptyPlan, amounts}
-use Rattle.rules.specs.World.{Query, world}
-use Rattle.rules.specs.Plan.{plan}
-use Rattle.rules.specs.Tape.{note}
+use Rattle.abstract_sheet.specs.Sheet.{Sheet}
+use Rattle.plan_rules.specs.Event.{Event, batch, text, point, Step, emptyPlan, amounts}
+use Rattle.plan_rules.specs.World.{Query, world}
+use Rattle.plan_rules.specs.Plan.{plan}
+use Rattle.plan_rules.specs.Tape.{note}
 use Rattle.cover.specs.Path.{Path}
 
 abbrev pub Trace : Type 0

@@ -14,7 +14,7 @@ use Rattle.records.specs.declared.PreparedSource.the-variants.{Geometry, Text, 
 use Rattle.records.specs.declared.PreparedGeometry.{PreparedGeometry}
 use Rattle.records.specs.declared.PreparedText.{PreparedText}
 use Rattle.records.specs.declared.PreparedReference.{PreparedReference}
-use Rattle.layout.specs.Sheet.{NodeRecord, CellRecord, Sheet}
+use Rattle.abstract_sheet.specs.Sheet.{NodeRecord, CellRecord, Sheet}
 use Rattle.exact.specs.Placement.{vectorOf}
 use Rattle.exact.specs.Box.{IntegerBox, pointBox, SameBox, Holds, Inside, boxOf}
 

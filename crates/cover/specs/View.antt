@@ -6,7 +6,7 @@ use Prim.Native.Nat.{ℕ, _+_, _*_, _<_}
 use Rattle.geometry.specs.declared.bbox.WorldBBox.{WorldBBox}
 use Rattle.records.specs.declared.PreparedGeometry.{PreparedGeometry}
 use Rattle.records.specs.declared.PreparedText.{PreparedText}
-use Rattle.layout.specs.Sheet.{NodeRecord}
+use Rattle.abstract_sheet.specs.Sheet.{NodeRecord}
 use Rattle.exact.specs.Placement.{Vector, ExactPlacement, move, vectorOf}
 use Rattle.exact.specs.Box.{IntegerBox, Holds, Inside, Touches, IsBox, boxOf, place}
 use Rattle.cover.specs.Path.{Item, aBatch, aText, aPoint}

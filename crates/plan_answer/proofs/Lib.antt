@@ -1,12 +1,12 @@
 -- Facts about answers.
 --     Outcomes         which answer an outcome tells of
---     Saying           what is said of an input, by code path
+--     Replies           what is reply of an input, by code path
 --     Parts            a part of a text
 --     Buffers          buffers of zeros, for programs
 --     WorkedExample    document 01's worked example, from its bytes to its text
 -- Assumes nothing.
 pub mod Outcomes
-pub mod Saying
+pub mod Replies
 pub mod Parts
 pub mod Buffers
 pub mod WorkedExample

@@ -12,24 +12,24 @@ use Rattle.fields.specs.Field.{widths}
 use Rattle.fields.specs.Writing.{length-recordBytes}
 use Rattle.walk.specs.Offsets.{kindAt, offsets}
 use Rattle.walk.specs.Find.{countOf}
-use Rattle.questions.specs.Record.{recordNo}
-use Rattle.layout.specs.Sheet.{Sheet, sheetOf}
-use Rattle.sheet.specs.declared.Counts.{Counts}
-use Rattle.sheet.specs.declared.Checked.{Checked}
-use Rattle.sheet.specs.declared.Checked.the-variants as checked
-use Rattle.sheet.specs.Count.{countsOf, tallied}
-use Rattle.sheet.specs.Links.{linkOk}
-use Rattle.sheet.specs.Check.{firstNo, firstUnnamed, checkSheet}
-use Rattle.rules.specs.declared.Answer.the-variants.{Refused}
-use Rattle.rules.specs.declared.ScenePlan.{ScenePlan}
-use Rattle.rules.specs.Limits.{maxDepth}
-use Rattle.rules.specs.Event.{Event, emptyPlan, totals}
-use Rattle.rules.specs.World.{Query, world}
-use Rattle.rules.specs.Scratch.{countsNamed, marksNamed}
-use Rattle.rules.specs.Push.{say}
-use Rattle.rules.specs.Plan.{visitRoot, plan}
-use Rattle.rules.specs.Tape.{encode, fieldsOf, noTag, note, tape}
-use Rattle.rules.specs.Outcome.{Outcome, outcome, viewOk, zoomOk, freshPlan, tapeOf, delivered, soundOutcome, checkedOutcome, outcomeOf}
+use Rattle.check_record.specs.Record.{recordRefusal}
+use Rattle.abstract_sheet.specs.Sheet.{Sheet, sheetOf}
+use Rattle.check_sheet.specs.declared.Counts.{Counts}
+use Rattle.check_sheet.specs.declared.Checked.{Checked}
+use Rattle.check_sheet.specs.declared.Checked.the-variants as checked
+use Rattle.check_sheet.specs.Count.{countsOf, tallied}
+use Rattle.check_sheet.specs.Links.{linkOk}
+use Rattle.check_sheet.specs.Check.{firstNo, firstUnnamed, checkSheet}
+use Rattle.plan_rules.specs.declared.Answer.the-variants.{Refused}
+use Rattle.plan_rules.specs.declared.ScenePlan.{ScenePlan}
+use Rattle.plan_rules.specs.Limits.{maxDepth}
+use Rattle.plan_rules.specs.Event.{Event, emptyPlan, totals}
+use Rattle.plan_rules.specs.World.{Query, world}
+use Rattle.plan_rules.specs.Scratch.{countsNamed, marksNamed}
+use Rattle.plan_rules.specs.Push.{say}
+use Rattle.plan_rules.specs.Plan.{visitRoot, plan}
+use Rattle.plan_rules.specs.Tape.{encode, fieldsOf, noTag, note, tape}
+use Rattle.plan_rules.specs.Outcome.{Outcome, outcome, viewOk, zoomOk, freshPlan, tapeOf, delivered, soundOutcome, checkedOutcome, outcomeOf}
 
 -- ---- a sheet's refusal has a number
 
@@ -46,7 +46,7 @@ module _ (s : List ℕ) where
   unfolding firstNo
   first-no [] later p = p
   first-no (at ∷ xs) later p =
-      numbered-if (eqb (recordNo s at) 0) (first-no xs later p) (λ e. refused (omega (arith, eqb-false (recordNo s at) 0 e)))
+      numbered-if (eqb (recordRefusal s at) 0) (first-no xs later p) (λ e. refused (omega (arith, eqb-false (recordRefusal s at) 0 e)))
 
   first-unnamed : (c : Counts) (own : ℕ) (xs : List ℕ) (later : Checked) → Numbered later → Numbered (firstUnnamed s c own xs later)
   unfolding firstUnnamed

@@ -5,13 +5,13 @@ use mathlib.Core.List.{List, [], _∷_, _++_}
 use Prim.Native.Nat.{ℕ}
 use lib.ListN.{replicate, take}
 use Rattle.fields.specs.Field.{uint, f64, recordBytes}
-use Rattle.layout.specs.Examples.{workedText, workedCell, workedSheet}
+use Rattle.abstract_sheet.specs.Examples.{workedText, workedCell, workedSheet}
 use Rattle.plan_text.specs.Ascii.{ascii}
 use Rattle.plan_text.proofs.Opened.{openedText}
-use Rattle.rules.proofs.Cases.OpenedSheet.{openedSheet}
-use Rattle.rules.proofs.Cases.Samples.{whole}
+use Rattle.plan_rules.proofs.Cases.OpenedSheet.{openedSheet}
+use Rattle.plan_rules.proofs.Cases.Samples.{whole}
 use Rattle.plan_answer.specs.Text.{outcomeText}
-use Rattle.plan_answer.specs.Said.{Said, saidOfQuery, saidOf, saidOfRead}
+use Rattle.plan_answer.specs.Reply.{Reply, replyOfQuery, replyOf, replyOfRead}
 
 -- "view 0, 0, 100, 100, zoom 1, depth 1", as a record of kind 20
 abbrev workedQuery : List ℕ
@@ -20,25 +20,25 @@ workedQuery =
     (uint 4 54 ∷ uint 2 20 ∷ uint 4 0 ∷ uint 4 1 ∷ f64 (whole 0) ∷ f64 (whole 0) ∷ f64 (whole 100) ∷ f64 (whole 100) ∷ f64 (whole 1) ∷ [])
 
 -- lent: no hidden layer, a tape of 80 bytes, a count and three marks
-abbrev saidOfInput : List ℕ → Said
-saidOfInput s = saidOf s [] (replicate 80 7) (8 ∷ []) (9 ∷ 9 ∷ 9 ∷ [])
+abbrev replyOfInput : List ℕ → Reply
+replyOfInput s = replyOf s [] (replicate 80 7) (8 ∷ []) (9 ∷ 9 ∷ 9 ∷ [])
 
 -- "All it prints"
-pub worked-example : (saidOfInput (workedQuery ++ workedSheet)) .text ≡ ascii "text 0 4024000000000000 4034000000000000\ntotals 1 1 0 0 0 0\n"
-unfolding openedText openedSheet workedText workedCell workedSheet outcomeText saidOfQuery saidOf
+pub worked-example : (replyOfInput (workedQuery ++ workedSheet)) .text ≡ ascii "text 0 4024000000000000 4034000000000000\ntotals 1 1 0 0 0 0\n"
+unfolding openedText openedSheet workedText workedCell workedSheet outcomeText replyOfQuery replyOf
 worked-example = refl
 
 -- "A refusal prints `refused`, number, offset": a byte behind the sheet
-pub refusal : (saidOfInput (workedQuery ++ workedSheet ++ (0 ∷ []))) .text ≡ ascii "refused 2 86\n"
-unfolding openedText openedSheet workedText workedCell workedSheet outcomeText saidOfQuery saidOf
+pub refusal : (replyOfInput (workedQuery ++ workedSheet ++ (0 ∷ []))) .text ≡ ascii "refused 2 86\n"
+unfolding openedText openedSheet workedText workedCell workedSheet outcomeText replyOfQuery replyOf
 refusal = refl
 
 -- "A first record that is no whole query prints `no query`"
-pub no-query : (saidOfInput (take 53 workedQuery)) .text ≡ ascii "no query\n"
-unfolding openedText saidOf
+pub no-query : (replyOfInput (take 53 workedQuery)) .text ≡ ascii "no query\n"
+unfolding openedText replyOf
 no-query = refl
 
 -- "Input beyond the program's buffers .. prints `too long` before all else": 86 bytes were read into a buffer of 86
-pub too-long : (saidOfRead workedSheet 86 [] [] [] []) .text ≡ ascii "too long\n"
-unfolding openedText workedText workedCell workedSheet saidOfRead
+pub too-long : (replyOfRead workedSheet 86 [] [] [] []) .text ≡ ascii "too long\n"
+unfolding openedText workedText workedCell workedSheet replyOfRead
 too-long = refl

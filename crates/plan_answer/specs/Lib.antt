@@ -1,8 +1,8 @@
 -- What the program `plan` prints for an input.
 --     Text    the text of an answer
---     Said    what an input is answered, and what stands in every lent place after it
+--     Reply    what an input is answered, and what stands in every lent place after it
 --     Part    a part of the text, put into a lent buffer
 -- Definitions only. Assumes nothing.
 pub mod Text
-pub mod Said
+pub mod Reply
 pub mod Part

@@ -8,7 +8,7 @@ use lib.ListN.{take}
 use lib.Dec.{eqb}
 use Rattle.plan_text.specs.Ascii.{ascii}
 use Rattle.plan_text.specs.Text.{refusedLine, linesFrom}
-use Rattle.rules.specs.Outcome.{Outcome}
+use Rattle.plan_rules.specs.Outcome.{Outcome}
 use Rattle.plan_answer.specs.declared.Printed.{Printed}
 use Rattle.plan_answer.specs.declared.Printed.the-variants.{Tape, Refused, NoQuery, TooLong}
 

@@ -1,13 +1,13 @@
 // The answer to an input: a query, and then the sheet.
 use crate::Printed;
+use plan_rules::Answer;
 use plan_text::FirstRecord;
 use plan_text::QueryRecord;
-use rules::Answer;
 ghost use mathlib.Core.Path.{_≡_};
 ghost use Prim.Native.Nat.{_≤_};
 ghost use lib.ListN.{length};
 ghost use Rattle.plan_answer.specs.Text.{tapeEnd};
-ghost use Rattle.plan_answer.specs.Said.{said, saidOfQuery, saidOf, saidOfRead};
+ghost use Rattle.plan_answer.specs.Reply.{reply, replyOfQuery, replyOf, replyOfRead};
 
 // Plans the sheet behind the query.
 fn plan_query(
@@ -20,7 +20,7 @@ fn plan_query(
 ) -> Printed
     requires { ⌜ query .sheet ≤ length (now input) ⌝ }
     requires { ⌜ query .hidden ≤ length (now hidden) ⌝ }
-    ensures { λ r. ⌜ said r (now (hidden .entry)) (now (tape .exit)) (now (counts .exit)) (now (marks .exit)) ≡ saidOfQuery (now (input .entry)) query (now (hidden .entry)) (now (tape .entry)) (now (counts .entry)) (now (marks .entry)) ⌝ }
+    ensures { λ r. ⌜ reply r (now (hidden .entry)) (now (tape .exit)) (now (counts .exit)) (now (marks .exit)) ≡ replyOfQuery (now (input .entry)) query (now (hidden .entry)) (now (tape .entry)) (now (counts .entry)) (now (marks .entry)) ⌝ }
     ensures { λ r. ⌜ tapeEnd r ≤ length (now (tape .exit)) ⌝ }
 {
     let sheet = query.sheet;
@@ -47,7 +47,7 @@ pub fn answer(
     counts: &mut [u64],
     marks: &mut [u8],
 ) -> Printed
-    ensures { λ r. ⌜ said r (now (hidden .exit)) (now (tape .exit)) (now (counts .exit)) (now (marks .exit)) ≡ saidOf (now (input .entry)) (now (hidden .entry)) (now (tape .entry)) (now (counts .entry)) (now (marks .entry)) ⌝ }
+    ensures { λ r. ⌜ reply r (now (hidden .exit)) (now (tape .exit)) (now (counts .exit)) (now (marks .exit)) ≡ replyOf (now (input .entry)) (now (hidden .entry)) (now (tape .entry)) (now (counts .entry)) (now (marks .entry)) ⌝ }
     ensures { λ r. ⌜ tapeEnd r ≤ length (now (tape .exit)) ⌝ }
 {
     let first = plan_text::read_query(input, hidden);
@@ -67,7 +67,7 @@ pub fn answer_read(
     counts: &mut [u64],
     marks: &mut [u8],
 ) -> Printed
-    ensures { λ r. ⌜ said r (now (hidden .exit)) (now (tape .exit)) (now (counts .exit)) (now (marks .exit)) ≡ saidOfRead (now (buffer .entry)) size (now (hidden .entry)) (now (tape .entry)) (now (counts .entry)) (now (marks .entry)) ⌝ }
+    ensures { λ r. ⌜ reply r (now (hidden .exit)) (now (tape .exit)) (now (counts .exit)) (now (marks .exit)) ≡ replyOfRead (now (buffer .entry)) size (now (hidden .entry)) (now (tape .entry)) (now (counts .entry)) (now (marks .entry)) ⌝ }
     ensures { λ r. ⌜ tapeEnd r ≤ length (now (tape .exit)) ⌝ }
 {
     if buffer.len() <= size {

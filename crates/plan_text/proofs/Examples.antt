@@ -7,10 +7,10 @@ use Prim.Native.Nat.{ℕ}
 use lib.ListN.{replicate}
 use Rattle.fields.specs.Field.{uintBytes}
 use Rattle.geometry.specs.Placement.{IDENTITY}
-use Rattle.rules.specs.Event.{Event, batch, text, point, proxy, totals, scenePlan}
-use Rattle.rules.specs.Push.{noLabel}
-use Rattle.rules.specs.Tape.{encode}
-use Rattle.rules.proofs.Cases.Samples.{spot, page}
+use Rattle.plan_rules.specs.Event.{Event, batch, text, point, proxy, totals, scenePlan}
+use Rattle.plan_rules.specs.Push.{noLabel}
+use Rattle.plan_rules.specs.Tape.{encode}
+use Rattle.plan_rules.proofs.Cases.Samples.{spot, page}
 use Rattle.plan_text.specs.Ascii.{ascii}
 use Rattle.plan_text.specs.Text.{decimal, hexadecimal, lineOf, refusedLine, linesFrom}
 use Rattle.plan_text.specs.Query.{wholeQuery, hiddenLayers}

@@ -10,7 +10,7 @@ use lib.Seq.{sets, length-sets}
 use lib.Dec.{leb, eqb}
 use borrow.Author.Tests.{le-leb, lt-leb, eq-eqb, ne-eqb, leb-true, not-true, not-false}
 use Rattle.walk.specs.Offsets.{lengthAt, kindAt}
-use Rattle.rules.specs.declared.SceneOptions.{SceneOptions}
+use Rattle.plan_rules.specs.declared.SceneOptions.{SceneOptions}
 use Rattle.plan_text.specs.declared.query.QueryRecord.{QueryRecord}
 use Rattle.plan_text.specs.declared.query.FirstRecord.{FirstRecord}
 use Rattle.plan_text.specs.declared.query.FirstRecord.the-variants.{Query, NoQuery, TooLong}

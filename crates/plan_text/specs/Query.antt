@@ -10,7 +10,7 @@ use lib.Seq.{sets}
 use lib.Dec.{leb, eqb}
 use Rattle.fields.specs.Field.{uintAt, f64At}
 use Rattle.walk.specs.Offsets.{lengthAt, kindAt}
-use Rattle.rules.specs.declared.SceneOptions.{SceneOptions}
+use Rattle.plan_rules.specs.declared.SceneOptions.{SceneOptions}
 use Rattle.plan_text.specs.declared.query.QueryRecord.{QueryRecord}
 use Rattle.plan_text.specs.declared.query.FirstRecord.{FirstRecord}
 use Rattle.plan_text.specs.declared.query.FirstRecord.the-variants.{Query, NoQuery, TooLong}

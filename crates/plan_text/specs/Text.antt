@@ -9,7 +9,7 @@ use lib.ListN.{length, drop}
 use lib.Dec.{ltb, eqb}
 use Rattle.fields.specs.Field.{uintAt}
 use Rattle.walk.specs.Offsets.{lengthAt, kindAt, offsetsFrom}
-use Rattle.rules.specs.Push.{noLabel}
+use Rattle.plan_rules.specs.Push.{noLabel}
 use Rattle.plan_text.specs.Ascii.{ascii}
 
 -- ---- numbers

@@ -1,6 +1,6 @@
 // The query: the first record of the input, of kind 20, with its hidden layers.
 use geometry::bbox::WorldBBox;
-use rules::SceneOptions;
+use plan_rules::SceneOptions;
 ghost use mathlib.Core.Path.{_≡_};
 ghost use Prim.Native.Nat.{_+_, _*_, _≤_, _<_};
 ghost use lib.ListN.{length};

@@ -5,9 +5,9 @@ use mathlib.Core.List.{List}
 use Prim.Native.Nat.{ℕ, _≤_, _<_}
 use lib.ListN.{length, replicate}
 use borrow.Author.Tests.{le-leb, lt-leb}
-use Rattle.rules.specs.declared.Answer.the-variants.{Planned, Refused}
-use Rattle.rules.specs.World.{World}
-use Rattle.rules.specs.Outcome.{outcome}
+use Rattle.plan_rules.specs.declared.Answer.the-variants.{Planned, Refused}
+use Rattle.plan_rules.specs.World.{World}
+use Rattle.plan_rules.specs.Outcome.{outcome}
 use Rattle.planner.specs.Answered.{answered}
 
 module _ (w : World (List ℕ)) where

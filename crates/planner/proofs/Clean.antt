@@ -4,12 +4,12 @@ use mathlib.Core.Path.{_≡_, ap, _∙_}
 use mathlib.Core.List.{List}
 use Prim.Native.Nat.{ℕ}
 use lib.ListN.{length, replicate}
-use Rattle.layout.specs.Sheet.{Sheet}
-use Rattle.rules.specs.declared.ScenePlan.{ScenePlan}
-use Rattle.rules.specs.Event.{emptyPlan}
-use Rattle.rules.specs.World.{Query, world}
-use Rattle.rules.specs.Plan.{visitRoot}
-use Rattle.rules.specs.Tape.{noTag, onTape}
+use Rattle.abstract_sheet.specs.Sheet.{Sheet}
+use Rattle.plan_rules.specs.declared.ScenePlan.{ScenePlan}
+use Rattle.plan_rules.specs.Event.{emptyPlan}
+use Rattle.plan_rules.specs.World.{Query, world}
+use Rattle.plan_rules.specs.Plan.{visitRoot}
+use Rattle.plan_rules.specs.Tape.{noTag, onTape}
 use Rattle.planner.specs.Swept.{visited, swept}
 
 -- Places as lent, zeroed (₁), as the visits leave them (₂), and zeroed again (₃).

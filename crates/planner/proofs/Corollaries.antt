@@ -8,19 +8,19 @@ use Prim.Native.Nat.{ℕ}
 use lib.Dec.{T as Yes}
 use lib.IntN.{pos}
 use lib.Ieee.{fin, le}
-use Rattle.layout.specs.Sheet.{sheetOf}
+use Rattle.abstract_sheet.specs.Sheet.{sheetOf}
 use Rattle.exact.specs.Screen.{zoomPower}
-use Rattle.rules.specs.declared.Answer.{Answer}
-use Rattle.rules.specs.declared.SceneOptions.{SceneOptions}
-use Rattle.rules.specs.Limits.{maxSceneObjects}
-use Rattle.rules.specs.World.{queryOf}
-use Rattle.rules.specs.Outcome.{Outcome, numberOf, outcome, outcomeOf}
+use Rattle.plan_rules.specs.declared.Answer.{Answer}
+use Rattle.plan_rules.specs.declared.SceneOptions.{SceneOptions}
+use Rattle.plan_rules.specs.Limits.{maxSceneObjects}
+use Rattle.plan_rules.specs.World.{queryOf}
+use Rattle.plan_rules.specs.Outcome.{Outcome, numberOf, outcome, outcomeOf}
 use Rattle.cover.specs.Square.{Square}
 use Rattle.cover.specs.TrueBoxes.{TrueBoxes}
 use Rattle.cover.specs.View.{WholeView}
 use Rattle.cover.specs.Trace.{Trace}
 use Rattle.cover.specs.Demand3.{LosesNothing, IsTape}
-use Rattle.cover.proofs.Call.{demand-3}
+use Rattle.cover.proofs.AcceptedCall.{demand-3}
 
 module _ (sheet : List ℕ) (query : SceneOptions) (hidden out counts marks : List ℕ) where
   pub plan-loses-nothing : Square (sheetOf sheet) → TrueBoxes (sheetOf sheet) → WholeView (query .view) → Yes (le (query .zoom) (fin false 1 (pos zoomPower)))

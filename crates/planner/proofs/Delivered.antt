@@ -7,20 +7,20 @@ use Prim.Native.Nat.{ℕ, _≤_, _<_}
 use lib.ListN.{length, replicate, take, drop}
 use lib.Seq.{length-take-le}
 use lib.Dec.{leb}
-use Rattle.layout.specs.Sheet.{Sheet}
-use Rattle.rules.specs.declared.Answer.{Answer}
-use Rattle.rules.specs.declared.Answer.the-variants.{Planned, Refused}
-use Rattle.rules.specs.declared.ScenePlan.{ScenePlan}
-use Rattle.rules.specs.Limits.{maxTotal}
-use Rattle.rules.specs.Event.{emptyPlan, totals}
-use Rattle.rules.specs.World.{Query, World, world}
-use Rattle.rules.specs.Scratch.{countsNamed, marksNamed}
-use Rattle.rules.specs.Push.{say}
-use Rattle.rules.specs.Plan.{visitRoot, plan}
-use Rattle.rules.specs.Tape.{noTag, onTape}
-use Rattle.rules.specs.Outcome.{outcome, freshPlan, tapeOf, zeroed, delivered}
-use Rattle.rules.proofs.TapeTheorem.{same-output-length}
-use Rattle.rules.proofs.OutcomeTheorem.{written, writtenOutcome, delivered-is-written}
+use Rattle.abstract_sheet.specs.Sheet.{Sheet}
+use Rattle.plan_rules.specs.declared.Answer.{Answer}
+use Rattle.plan_rules.specs.declared.Answer.the-variants.{Planned, Refused}
+use Rattle.plan_rules.specs.declared.ScenePlan.{ScenePlan}
+use Rattle.plan_rules.specs.Limits.{maxTotal}
+use Rattle.plan_rules.specs.Event.{emptyPlan, totals}
+use Rattle.plan_rules.specs.World.{Query, World, world}
+use Rattle.plan_rules.specs.Scratch.{countsNamed, marksNamed}
+use Rattle.plan_rules.specs.Push.{say}
+use Rattle.plan_rules.specs.Plan.{visitRoot, plan}
+use Rattle.plan_rules.specs.Tape.{noTag, onTape}
+use Rattle.plan_rules.specs.Outcome.{outcome, freshPlan, tapeOf, zeroed, delivered}
+use Rattle.plan_rules.proofs.TapeTheorem.{same-output-length}
+use Rattle.plan_rules.proofs.OutcomeTheorem.{written, writtenOutcome, delivered-is-written}
 use Rattle.planner.specs.Answered.{answered}
 use Rattle.planner.specs.Swept.{visited, swept}
 

@@ -10,12 +10,12 @@ use native.Mathlib.Omega.{arith}
 use lib.ListN.{length}
 use lib.Dec.{leb}
 use borrow.Author.Tests.{le-leb, leb-true, not-true, not-false}
-use Rattle.layout.specs.Sheet.{Sheet}
-use Rattle.rules.specs.declared.Answer.the-variants.{Refused}
-use Rattle.rules.specs.Limits.{maxDepth}
-use Rattle.rules.specs.World.{Query}
-use Rattle.rules.specs.Scratch.{countsNamed, marksNamed}
-use Rattle.rules.specs.Outcome.{outcome, viewOk, zoomOk, tapeOf, delivered, soundOutcome}
+use Rattle.abstract_sheet.specs.Sheet.{Sheet}
+use Rattle.plan_rules.specs.declared.Answer.the-variants.{Refused}
+use Rattle.plan_rules.specs.Limits.{maxDepth}
+use Rattle.plan_rules.specs.World.{Query}
+use Rattle.plan_rules.specs.Scratch.{countsNamed, marksNamed}
+use Rattle.plan_rules.specs.Outcome.{outcome, viewOk, zoomOk, tapeOf, delivered, soundOutcome}
 
 -- (2^32 − 1) · (2^32 + 1) is 2^64 − 1
 pub size-fits : (cells layers : ℕ) → cells < 4294967296 → layers ≤ 4294967297 → cells * layers < 18446744073709551616

@@ -6,7 +6,7 @@ use lib.Ieee.{le}
 use borrow.Author.Tests.{not-true, not-false}
 use Rattle.floats.specs.Order.{isFinite}
 use Rattle.geometry.specs.declared.bbox.WorldBBox.{WorldBBox}
-use Rattle.rules.specs.Outcome.{viewOk}
+use Rattle.plan_rules.specs.Outcome.{viewOk}
 
 module _ (v : WorldBBox) {a : Bool} (min-x : a ≡ isFinite (v .«min_x»)) where
   pub infinite-min-x : not a ≡ true → false ≡ viewOk v

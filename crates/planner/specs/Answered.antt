@@ -5,9 +5,9 @@ use mathlib.Core.List.{List}
 use Prim.Native.Nat.{ℕ}
 use lib.ListN.{length, replicate}
 use lib.Dec.{leb}
-use Rattle.rules.specs.declared.Answer.the-variants.{Planned, Refused}
-use Rattle.rules.specs.World.{World}
-use Rattle.rules.specs.Outcome.{Outcome, outcome}
+use Rattle.plan_rules.specs.declared.Answer.the-variants.{Planned, Refused}
+use Rattle.plan_rules.specs.World.{World}
+use Rattle.plan_rules.specs.Outcome.{Outcome, outcome}
 
 -- The tape's end decides. "Number 12 zeroes the whole output"; an accepted plan leaves it as written. The scratch is as the plan left it.
 unfoldable pub answered : World (List ℕ) → Outcome

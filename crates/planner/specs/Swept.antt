@@ -3,11 +3,11 @@
 use mathlib.Core.List.{List}
 use Prim.Native.Nat.{ℕ}
 use lib.ListN.{replicate}
-use Rattle.layout.specs.Sheet.{Sheet}
-use Rattle.rules.specs.Event.{emptyPlan}
-use Rattle.rules.specs.World.{Query, World, world}
-use Rattle.rules.specs.Plan.{visitRoot}
-use Rattle.rules.specs.Tape.{noTag, onTape}
+use Rattle.abstract_sheet.specs.Sheet.{Sheet}
+use Rattle.plan_rules.specs.Event.{emptyPlan}
+use Rattle.plan_rules.specs.World.{Query, World, world}
+use Rattle.plan_rules.specs.Plan.{visitRoot}
+use Rattle.plan_rules.specs.Tape.{noTag, onTape}
 
 -- what the visits leave, from an empty plan and that many zeroed marks and counts
 unfoldable pub visited : Sheet → ℕ → Query → List ℕ → ℕ → ℕ → World (List ℕ)

@@ -3,8 +3,8 @@ use geometry::bbox::WorldBBox;
 ghost use mathlib.Core.Path.{_≡_};
 ghost use mathlib.Core.Bool.{_&&_};
 ghost use lib.Dec.{leb};
-ghost use Rattle.rules.specs.Scratch.{countsNamed, marksNamed};
-ghost use Rattle.rules.specs.Outcome.{viewOk, zoomOk};
+ghost use Rattle.plan_rules.specs.Scratch.{countsNamed, marksNamed};
+ghost use Rattle.plan_rules.specs.Outcome.{viewOk, zoomOk};
 
 // Question 8: "Is the view finite, min at most max?"
 pub fn view_ok(view: WorldBBox) -> bool

@@ -7,16 +7,16 @@ use crate::ask::zoom_ok;
 use crate::finish::finish;
 use crate::root::visit_root;
 use crate::start::empty_plan;
-use rules::Answer;
-use rules::SceneOptions;
-use rules::ScenePlan;
-use sheet::Checked;
+use check_sheet::Checked;
+use plan_rules::Answer;
+use plan_rules::SceneOptions;
+use plan_rules::ScenePlan;
 ghost use mathlib.Core.Path.{_≡_};
 ghost use lib.ListN.{length};
-ghost use Rattle.layout.specs.Sheet.{sheetOf};
-ghost use Rattle.rules.specs.Limits.{maxSceneObjects};
-ghost use Rattle.rules.specs.World.{queryOf, world};
-ghost use Rattle.rules.specs.Outcome.{outcome, soundOutcome, outcomeOf};
+ghost use Rattle.abstract_sheet.specs.Sheet.{sheetOf};
+ghost use Rattle.plan_rules.specs.Limits.{maxSceneObjects};
+ghost use Rattle.plan_rules.specs.World.{queryOf, world};
+ghost use Rattle.plan_rules.specs.Outcome.{outcome, soundOutcome, outcomeOf};
 ghost use Rattle.planner.specs.Swept.{swept};
 
 const MAX_SCENE_OBJECTS: u64 = 20_000;
@@ -107,7 +107,7 @@ pub fn plan(
 ) -> Answer
     ensures { λ r. ⌜ outcome r (now (out .exit)) (now (counts .exit)) (now (marks .exit)) ≡ outcomeOf (now (sheet .entry)) (queryOf query (now (hidden .entry)) maxSceneObjects) (now (out .entry)) (now (counts .entry)) (now (marks .entry)) ⌝ }
 {
-    match sheet::check_sheet(sheet) {
+    match check_sheet::check_sheet(sheet) {
         Checked::Refused(number, offset) => Answer::Refused(number, offset),
         Checked::Sound(counted) => plan_sound(
             sheet,

@@ -1,14 +1,14 @@
 // The end of a plan: the totals behind the tape, and question 12.
-use rules::Answer;
-use rules::ScenePlan;
+use plan_rules::Answer;
+use plan_rules::ScenePlan;
 ghost use mathlib.Core.Path.{_≡_};
 ghost use mathlib.Core.List.{List};
 ghost use Prim.Native.Nat.{ℕ};
-ghost use Rattle.rules.specs.Event.{totals};
-ghost use Rattle.rules.specs.World.{world};
-ghost use Rattle.rules.specs.Push.{say};
-ghost use Rattle.rules.specs.Tape.{noTag, onTape};
-ghost use Rattle.rules.specs.Outcome.{outcome};
+ghost use Rattle.plan_rules.specs.Event.{totals};
+ghost use Rattle.plan_rules.specs.World.{world};
+ghost use Rattle.plan_rules.specs.Push.{say};
+ghost use Rattle.plan_rules.specs.Tape.{noTag, onTape};
+ghost use Rattle.plan_rules.specs.Outcome.{outcome};
 ghost use Rattle.planner.specs.Answered.{answered};
 
 // Question 12, "Does the whole tape fit the lent output?" Records that do not fit were not written, but the tape's end counts them.

@@ -2,16 +2,16 @@
 use crate::start::identity;
 use geometry::bbox::Bounds;
 use geometry::bbox::WorldBBox;
-use rules::SceneOptions;
-use rules::ScenePlan;
+use plan_rules::SceneOptions;
+use plan_rules::ScenePlan;
 use walk::Found;
 ghost use mathlib.Core.Path.{_≡_};
 ghost use mathlib.Core.List.{List};
 ghost use Prim.Native.Nat.{ℕ};
-ghost use Rattle.layout.specs.Sheet.{sheetOf};
-ghost use Rattle.rules.specs.World.{queryOf, world};
-ghost use Rattle.rules.specs.Plan.{visitRoot};
-ghost use Rattle.rules.specs.Tape.{noTag, onTape};
+ghost use Rattle.abstract_sheet.specs.Sheet.{sheetOf};
+ghost use Rattle.plan_rules.specs.World.{queryOf, world};
+ghost use Rattle.plan_rules.specs.Plan.{visitRoot};
+ghost use Rattle.plan_rules.specs.Tape.{noTag, onTape};
 
 // "Depth 0 gives just one proxy if the root has a box that overlaps the view."
 fn load_root(sheet: &[u8], query: SceneOptions, out: &mut [u8], plan: ScenePlan) -> ScenePlan

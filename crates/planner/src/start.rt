@@ -1,9 +1,9 @@
 // What a plan starts from: the root stands where it is, and nothing is listed yet.
 use geometry::placement::Placement;
-use rules::ScenePlan;
+use plan_rules::ScenePlan;
 ghost use mathlib.Core.Path.{_≡_};
 ghost use Rattle.geometry.specs.Placement.{IDENTITY};
-ghost use Rattle.rules.specs.Event.{emptyPlan};
+ghost use Rattle.plan_rules.specs.Event.{emptyPlan};
 
 // `DAffine2::IDENTITY`
 pub fn identity() -> Placement

@@ -3,9 +3,9 @@
 use mathlib.Core.List.{List}
 use Prim.Native.Nat.{ℕ}
 use lib.Ieee.{Float}
-use Rattle.rules.specs.Limits.{maxSceneObjects}
-use Rattle.rules.specs.World.{Query}
-use Rattle.rules.specs.Outcome.{Outcome}
+use Rattle.plan_rules.specs.Limits.{maxSceneObjects}
+use Rattle.plan_rules.specs.World.{Query}
+use Rattle.plan_rules.specs.Outcome.{Outcome}
 
 -- "A query: root cell 4, depth 4, view 4 f, zoom f, hidden layers", field by field
 abbrev pub queryFrom : ℕ → ℕ → Float → Float → Float → Float → Float → List ℕ → Query

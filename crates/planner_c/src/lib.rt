@@ -1,10 +1,10 @@
 // `planner::plan` for C and Rust to call, under its contract. `include/ribaltzen.h` declares it for C, `rust/` wraps it for Rust.
 // Any bytes, any query and any lent memory get an answer; there is no `requires`.
 use geometry::bbox::WorldBBox;
-use rules::Answer;
-use rules::SceneOptions;
+use plan_rules::Answer;
+use plan_rules::SceneOptions;
 ghost use mathlib.Core.Path.{_≡_};
-ghost use Rattle.rules.specs.Outcome.{outcomeOf};
+ghost use Rattle.plan_rules.specs.Outcome.{outcomeOf};
 ghost use Rattle.planner_c.specs.Call.{given, queryFrom};
 
 // The number of the first no, with its offset, or 0 with the tape's length.

@@ -9,7 +9,7 @@ use lib.ListN.{length, getD, drop, drop-of-length-le}
 use lib.Seq.{drop-cons}
 use borrow.Author.Tests.{eq-eqb, ne-eqb}
 use native.Mathlib.Numerals.{add-one}
-use Rattle.rules.specs.World.{contains}
+use Rattle.plan_rules.specs.World.{contains}
 
 module _ (xs : List ℕ) (key i : ℕ) where
   at-place : i < length xs → contains (drop i xs) key ≡ (eqb (getD xs i 0) key || contains (drop (suc i) xs) key)

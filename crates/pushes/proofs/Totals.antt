@@ -2,8 +2,8 @@
 use mathlib.Core.Path.{_≡_}
 use Prim.Native.Nat.{ℕ, zero, suc, _+_, _≤_, _<_}
 use native.Mathlib.Omega.{arith}
-use Rattle.rules.specs.Limits.{maxTotal}
-use Rattle.rules.specs.Event.{saturate, _⊞_}
+use Rattle.plan_rules.specs.Limits.{maxTotal}
+use Rattle.plan_rules.specs.Event.{saturate, _⊞_}
 
 pub sum-within : (a b : ℕ) → a + b ≤ maxTotal → a + b ≡ a ⊞ b
 unfolding _⊞_ saturate

@@ -3,16 +3,16 @@
 use geometry::bbox::WorldBBox;
 use geometry::placement::DVec2;
 use geometry::placement::Placement;
-use rules::ScenePlan;
+use plan_rules::ScenePlan;
 ghost use mathlib.Core.Path.{_≡_};
 ghost use mathlib.Core.Bool.{Bool};
 ghost use mathlib.Core.List.{List};
 ghost use Prim.Native.Nat.{ℕ};
 ghost use Rattle.geometry.specs.declared.bbox.WorldBBox.{WorldBBox};
-ghost use Rattle.rules.specs.Event.{_⊞_, batch, text, point, proxy, skippedMember, skippedBatch, culledReference, culledBatch, detailCell, totals};
-ghost use Rattle.rules.specs.World.{world};
-ghost use Rattle.rules.specs.Push.{say};
-ghost use Rattle.rules.specs.Tape.{noTag, onTape};
+ghost use Rattle.plan_rules.specs.Event.{_⊞_, batch, text, point, proxy, skippedMember, skippedBatch, culledReference, culledBatch, detailCell, totals};
+ghost use Rattle.plan_rules.specs.World.{world};
+ghost use Rattle.plan_rules.specs.Push.{say};
+ghost use Rattle.plan_rules.specs.Tape.{noTag, onTape};
 
 // Totals stop at 2^64 - 1.
 fn saturating_add(a: u64, b: u64) -> u64

@@ -14,16 +14,16 @@ use geometry::placement::Placement;
 use geometry::screen::is_dense_batch;
 use geometry::screen::is_subpixel;
 use geometry::screen::screen_size;
-use rules::SceneOptions;
-use rules::ScenePlan;
+use plan_rules::SceneOptions;
+use plan_rules::ScenePlan;
 use walk::Found;
 ghost use mathlib.Core.Path.{_≡_};
 ghost use mathlib.Core.List.{List};
 ghost use Prim.Native.Nat.{ℕ};
-ghost use Rattle.layout.specs.Sheet.{sheetOf, nodeRecordAt};
-ghost use Rattle.rules.specs.World.{queryOf, world, flow, each};
-ghost use Rattle.rules.specs.Push.{pushGeometry, pushText, pushPoint, pushNode};
-ghost use Rattle.rules.specs.Tape.{noTag, onTape};
+ghost use Rattle.abstract_sheet.specs.Sheet.{sheetOf, nodeRecordAt};
+ghost use Rattle.plan_rules.specs.World.{queryOf, world, flow, each};
+ghost use Rattle.plan_rules.specs.Push.{pushGeometry, pushText, pushPoint, pushNode};
+ghost use Rattle.plan_rules.specs.Tape.{noTag, onTape};
 
 // The label of a proxy that stands for no cell.
 const NO_LABEL: u32 = 0xffff_ffff;

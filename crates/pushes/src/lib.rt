@@ -1,6 +1,6 @@
 // What a plan lists, each item by the test and in the order of bevy_scene.rs: `add_load`, `push_geometry`, `push_text`, `push_node`.
 // Every function is total. What it leaves of the plan and of the output is what the rules' definition of the same name says.
-use rules::ScenePlan;
+use plan_rules::ScenePlan;
 
 mod limits; // the budget, and hidden layers
 mod events; // what an event adds to the plan, and its record on the tape

@@ -1,11 +1,11 @@
 // The detail budget and the hidden layers.
-use rules::SceneOptions;
-use rules::ScenePlan;
+use plan_rules::SceneOptions;
+use plan_rules::ScenePlan;
 ghost use mathlib.Core.Path.{_≡_};
 ghost use mathlib.Core.List.{List};
 ghost use Prim.Native.Nat.{ℕ};
-ghost use Rattle.rules.specs.declared.SceneOptions.{SceneOptions};
-ghost use Rattle.rules.specs.World.{queryOf, hides, detailBudgetExhausted};
+ghost use Rattle.plan_rules.specs.declared.SceneOptions.{SceneOptions};
+ghost use Rattle.plan_rules.specs.World.{queryOf, hides, detailBudgetExhausted};
 
 const MAX_TEXT_INSTANCES: u64 = 10_000;
 

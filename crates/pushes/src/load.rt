@@ -3,13 +3,13 @@ use crate::events::list_proxy;
 use crate::limits::MAX_LOAD_PROXIES;
 use geometry::bbox::Bounds;
 use geometry::bbox::WorldBBox;
-use rules::ScenePlan;
+use plan_rules::ScenePlan;
 ghost use mathlib.Core.Path.{_≡_};
 ghost use mathlib.Core.List.{List};
 ghost use Prim.Native.Nat.{ℕ};
-ghost use Rattle.rules.specs.World.{world};
-ghost use Rattle.rules.specs.Push.{addLoad, addLoadIfBoxed};
-ghost use Rattle.rules.specs.Tape.{noTag, onTape};
+ghost use Rattle.plan_rules.specs.World.{world};
+ghost use Rattle.plan_rules.specs.Push.{addLoad, addLoadIfBoxed};
+ghost use Rattle.plan_rules.specs.Tape.{noTag, onTape};
 
 pub fn add_load(out: &mut [u8], plan: ScenePlan, label: u32, bbox: WorldBBox) -> ScenePlan
     ensures { λ r. ⌜ ((m k : List ℕ) → world r (now (out .exit)) m k ≡ addLoad noTag onTape tt label bbox (world plan (now (out .entry)) m k)) ⌝ }

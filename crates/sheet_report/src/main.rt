@@ -2,10 +2,10 @@
 //     sound BATCHES TEXTS NODES REFERENCES CELLS    how many records there are of each kind
 //     refused NUMBER OFFSET                         the first no
 //     too long                                      the input does not fit the program's buffer
+use check_sheet::Checked;
+use check_sheet::Counts;
 use libc::STDIN_FILENO;
 use libc::STDOUT_FILENO;
-use sheet::Checked;
-use sheet::Counts;
 
 // A blank and a number.
 fn say_number(n: u64) {
@@ -37,7 +37,7 @@ fn run(buffer: &mut [u8]) {
         io::write_all(STDOUT_FILENO, b"too long\n");
         return;
     }
-    match sheet::check_sheet(&buffer[..n]) {
+    match check_sheet::check_sheet(&buffer[..n]) {
         Checked::Sound(counts) => say_sound(counts),
         Checked::Refused(number, offset) => say_refused(number, offset),
     }

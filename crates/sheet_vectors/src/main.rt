@@ -1,12 +1,12 @@
-// Compares `sheet::check_sheet` with the answers that tools/sheet-cases.py writes down: it reads the
+// Compares `check_sheet::check_sheet` with the answers that tools/sheet-cases.py writes down: it reads the
 // cases on standard input and prints, by expected number, how many passed and how many failed.
 // A case's head has 72 bytes: expected number, expected offset, length of the prefix, length of the
 // block, repeats of the block, length of the suffix (4 bytes each), and a label of 48.
 ghost use Prim.Native.Nat.{_<_};
 ghost use lib.ListN.{length};
+use check_sheet::Checked;
 use libc::STDIN_FILENO;
 use libc::STDOUT_FILENO;
-use sheet::Checked;
 
 struct Case {
     number: u32,
@@ -71,7 +71,7 @@ fn answers(sheet: &[u8], end: usize, number: u32, offset: u32) -> bool {
     if sheet.len() <= end {
         return false;
     }
-    match sheet::check_sheet(&sheet[..end]) {
+    match check_sheet::check_sheet(&sheet[..end]) {
         Checked::Sound(_) => { if number == 0 { offset == 0 } else { false } }
         Checked::Refused(no, at) => {
             if no == number {

@@ -11,9 +11,9 @@ use lib.Dec.{leb}
 use borrow.Author.Tests.{lt-leb, leb-true, leb-false}
 use Rattle.fields.specs.Field.{Field, widths, uintBytes, recordBytes}
 use Rattle.fields.specs.Writing.{uintBytes-mod}
-use Rattle.rules.specs.Event.{Event, amounts}
-use Rattle.rules.specs.Tape.{fieldsOf, putRecord}
-use Rattle.rules.proofs.TapeTheorem.{widths-amount, put-fits}
+use Rattle.plan_rules.specs.Event.{Event, amounts}
+use Rattle.plan_rules.specs.Tape.{fieldsOf, putRecord}
+use Rattle.plan_rules.proofs.TapeTheorem.{widths-amount, put-fits}
 
 -- ---- records
 

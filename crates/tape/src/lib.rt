@@ -3,15 +3,15 @@
 use geometry::bbox::WorldBBox;
 use geometry::placement::DVec2;
 use geometry::placement::Placement;
-use rules::ScenePlan;
+use plan_rules::ScenePlan;
 ghost use mathlib.Core.Path.{_≡_};
 ghost use Prim.Native.Nat.{_+_, _≤_};
 ghost use lib.Dec.{leb};
 ghost use lib.ListN.{length, replicate};
 ghost use lib.Seq.{sets};
 ghost use Rattle.fields.specs.Field.{recordBytes};
-ghost use Rattle.rules.specs.Event.{batch, text, point, proxy, totals};
-ghost use Rattle.rules.specs.Tape.{fieldsOf, putRecord};
+ghost use Rattle.plan_rules.specs.Event.{batch, text, point, proxy, totals};
+ghost use Rattle.plan_rules.specs.Tape.{fieldsOf, putRecord};
 
 // ---- records
 

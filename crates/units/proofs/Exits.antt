@@ -16,12 +16,12 @@ use Rattle.records.specs.declared.PreparedSource.the-variants.{Geometry, Text, 
 use Rattle.records.specs.declared.PreparedReference.{PreparedReference}
 use Rattle.records.specs.declared.PreparedCell.{PreparedCell}
 use Rattle.records.specs.Records.{referenceAt, cellAt, cellReferenceAt}
-use Rattle.layout.specs.Sheet.{sheetOf, cellRecordAt, references, cells}
-use Rattle.layout.specs.Lookup.{item-read}
-use Rattle.rules.specs.Event.{saturate}
-use Rattle.rules.specs.Scratch.{countingPlace, rememberedPlace, countPlace, isMarked}
-use Rattle.rules.specs.DrawUnits.{Units, counted, fold, addReferenceUnits, remember, referenceDrawUnits, sourceDrawUnits, cellDrawUnits}
-use Rattle.rules.proofs.Paths.Counts as Paths
+use Rattle.abstract_sheet.specs.Sheet.{sheetOf, cellRecordAt, references, cells}
+use Rattle.abstract_sheet.specs.Lookup.{item-read}
+use Rattle.plan_rules.specs.Event.{saturate}
+use Rattle.plan_rules.specs.Scratch.{countingPlace, rememberedPlace, countPlace, isMarked}
+use Rattle.plan_rules.specs.DrawUnits.{Units, counted, fold, addReferenceUnits, remember, referenceDrawUnits, sourceDrawUnits, cellDrawUnits}
+use Rattle.plan_rules.proofs.Paths.Counts as Paths
 
 -- ---- `reference_draw_units`
 

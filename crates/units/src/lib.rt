@@ -1,8 +1,8 @@
 // Draw units over the lent counts and marks: `reference_draw_units`, `source_draw_units` and `cell_draw_units`, three functions in a cycle of calls.
 // Depth and call position fall: a reference asks its source one depth below, and a source asks a cell, which asks references, at its own depth.
 ghost use mathlib.Core.Path.{_≡_};
-ghost use Rattle.layout.specs.Sheet.{sheetOf};
-ghost use Rattle.rules.specs.DrawUnits.{counted, referenceDrawUnits, sourceDrawUnits, cellDrawUnits};
+ghost use Rattle.abstract_sheet.specs.Sheet.{sheetOf};
+ghost use Rattle.plan_rules.specs.DrawUnits.{counted, referenceDrawUnits, sourceDrawUnits, cellDrawUnits};
 use records::PreparedSource;
 use walk::Found;
 

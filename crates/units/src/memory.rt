@@ -1,7 +1,7 @@
 // What the planner remembers in the lent scratch: two sets of cells, `cell_stack` and `complexity_stack`, and `complexity_cache`, a map from a cell and a depth to a count.
 ghost use mathlib.Core.Path.{_≡_};
 ghost use lib.ListN.{getD, set};
-ghost use Rattle.rules.specs.Scratch.{place, rememberedPlace, countPlace, isMarked};
+ghost use Rattle.plan_rules.specs.Scratch.{place, rememberedPlace, countPlace, isMarked};
 use crate::scratch::count_at;
 use crate::scratch::count_place;
 use crate::scratch::is_marked;

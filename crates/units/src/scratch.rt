@@ -3,7 +3,7 @@
 ghost use mathlib.Core.Path.{_≡_};
 ghost use Prim.Native.Nat.{_≤_};
 ghost use lib.ListN.{getD, set};
-ghost use Rattle.rules.specs.Scratch.{place, rememberedPlace, countPlace, isMarked};
+ghost use Rattle.plan_rules.specs.Scratch.{place, rememberedPlace, countPlace, isMarked};
 
 // ---- Places
 

@@ -1,7 +1,7 @@
 // Sums and products that stop at 2^64 - 1: the Rust's `saturating_add` and `saturating_mul` of u64.
 ghost use mathlib.Core.Path.{_≡_};
 ghost use Prim.Native.Nat.{_+_, _*_, max};
-ghost use Rattle.rules.specs.Event.{saturate};
+ghost use Rattle.plan_rules.specs.Event.{saturate};
 
 pub fn saturating_add(a: u64, b: u64) -> u64
     ensures { λ r. ⌜ r ≡ saturate (a + b) ⌝ }

@@ -2,8 +2,8 @@
 -- Assumes nothing.
 use Prim.Native.Nat.{ℕ}
 use mathlib.Core.List.{List}
-use Rattle.layout.specs.Sheet.{sheetOf}
-use Rattle.sheet.specs.Valid.{Valid}
+use Rattle.abstract_sheet.specs.Sheet.{sheetOf}
+use Rattle.check_sheet.specs.Valid.{Valid}
 use Rattle.valid_sheet.specs.WellFormed.{WellFormed}
 use Rattle.valid_sheet.specs.Named.{cell-named, source-named}
 use Rattle.valid_sheet.specs.Limits.{few-cells, reference-limits, node-limits}

@@ -7,11 +7,11 @@ use mathlib.Core.List.{List}
 use mathlib.Core.Option.{some}
 use Rattle.records.specs.declared.PreparedReference.{PreparedReference}
 use Rattle.records.specs.Records.{nodeAt, gridAt, referenceAt}
-use Rattle.layout.specs.Sheet.{NodeRecord, CellRecord, sheetOf, nodeRecordAt, nodes, references, cells}
-use Rattle.layout.specs.Lookup.{item-located, item-below}
-use Rattle.sheet.specs.Valid.{Valid}
-use Rattle.sheet.specs.Laws.Lengths.{node-points}
-use Rattle.sheet.specs.Laws.Values.{columns-most, rows-most}
+use Rattle.abstract_sheet.specs.Sheet.{NodeRecord, CellRecord, sheetOf, nodeRecordAt, nodes, references, cells}
+use Rattle.abstract_sheet.specs.Lookup.{item-located, item-below}
+use Rattle.check_sheet.specs.Valid.{Valid}
+use Rattle.check_sheet.specs.Laws.Lengths.{node-points}
+use Rattle.check_sheet.specs.Laws.Values.{columns-most, rows-most}
 use Rattle.valid_sheet.specs.WellFormed.{ReferenceLimits, NodeLimits}
 use Rattle.valid_sheet.specs.Named.{cell-source-below}
 

@@ -12,11 +12,11 @@ use Rattle.records.specs.declared.PreparedSource.the-variants.{Cell}
 use Rattle.records.specs.declared.PreparedReference.{PreparedReference}
 use Rattle.records.specs.Records.{sourceOf, referenceAt, cellAt, textsFrom, nodesFrom, referencesFrom, cellNumberAt, cellGeometryAt, cellTextAt, cellNodeAt, cellReferenceAt}
 use Rattle.records.specs.Sources.{sourceKind, sourceNumber, source-kind, source-number}
-use Rattle.layout.specs.Sheet.{CellRecord, sheetOf, cellRecordAt, Kind, geometries, texts, nodes, references, cells, kindNumber, numbers, source}
-use Rattle.layout.specs.Lookup.{item-some, item-located}
-use Rattle.sheet.specs.Valid.{Valid}
-use Rattle.sheet.specs.Laws.Values.{reference-values-ok}
-use Rattle.sheet.specs.Laws.Named.{reference-source-exists, cell-geometry-exists, cell-text-exists, cell-node-exists, cell-reference-exists}
+use Rattle.abstract_sheet.specs.Sheet.{CellRecord, sheetOf, cellRecordAt, Kind, geometries, texts, nodes, references, cells, kindNumber, numbers, source}
+use Rattle.abstract_sheet.specs.Lookup.{item-some, item-located}
+use Rattle.check_sheet.specs.Valid.{Valid}
+use Rattle.check_sheet.specs.Laws.Values.{reference-values-ok}
+use Rattle.check_sheet.specs.Laws.Named.{reference-source-exists, cell-geometry-exists, cell-text-exists, cell-node-exists, cell-reference-exists}
 use Rattle.valid_sheet.specs.WellFormed.{CellNamed, SourceNamed}
 
 -- a source of a kind has the kind and the number

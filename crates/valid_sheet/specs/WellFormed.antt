@@ -15,8 +15,8 @@ use Rattle.records.specs.declared.PreparedGeometry.{PreparedGeometry}
 use Rattle.records.specs.declared.PreparedText.{PreparedText}
 use Rattle.records.specs.declared.PreparedSource.the-variants.{Reference, Cell}
 use Rattle.records.specs.declared.PreparedReference.{PreparedReference}
-use Rattle.layout.specs.Sheet.{Sheet, NodeRecord, CellRecord, Kind, kindNumber, item, numbers, source}
-use Rattle.layout.specs.Lookup.{Exists}
+use Rattle.abstract_sheet.specs.Sheet.{Sheet, NodeRecord, CellRecord, Kind, kindNumber, item, numbers, source}
+use Rattle.abstract_sheet.specs.Lookup.{Exists}
 
 -- ---- Question 7: "Does every number in a cell, and every source but a cell source, name an existing record, and a reference source an earlier one?"
 

@@ -7,10 +7,10 @@ use Prim.Native.Nat.{ℕ}
 use borrow.Author.Tests.{not-true, not-false}
 use Rattle.geometry.specs.declared.bbox.Bounds.{Bounds}
 use Rattle.geometry.specs.declared.placement.Placement.{Placement}
-use Rattle.layout.specs.Sheet.{CellRecord, Sheet}
-use Rattle.rules.specs.World.{Query, World, Flow, go, halt, flow, each, ending}
-use Rattle.rules.specs.Visit.{VisitReference, geometryStep, textStep, nodeStep, referenceStep, cellBody}
-use Rattle.rules.specs.Tape.{noTag, onTape}
+use Rattle.abstract_sheet.specs.Sheet.{CellRecord, Sheet}
+use Rattle.plan_rules.specs.World.{Query, World, Flow, go, halt, flow, each, ending}
+use Rattle.plan_rules.specs.Visit.{VisitReference, geometryStep, textStep, nodeStep, referenceStep, cellBody}
+use Rattle.plan_rules.specs.Tape.{noTag, onTape}
 
 flow-halts : (x : Bool) (v : World (List ℕ)) {f : Flow (List ℕ)} → flow x v ≡ f → not x ≡ true → f ≡ halt v
 flow-halts x v e h = sym e ∙ ap (λ (b : Bool). flow b v) (not-true x h)

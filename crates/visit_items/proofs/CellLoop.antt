@@ -8,15 +8,15 @@ use native.Mathlib.Omega.{arith}
 use lib.ListN.{length}
 use Rattle.geometry.specs.declared.bbox.Bounds.{Bounds}
 use Rattle.geometry.specs.declared.placement.Placement.{Placement}
-use Rattle.layout.specs.Sheet.{Numbers, CellRecord, Sheet, sheetOf, cellRecordAt}
-use Rattle.rules.specs.declared.ScenePlan.{ScenePlan}
-use Rattle.rules.specs.declared.SceneOptions.{SceneOptions}
-use Rattle.rules.specs.World.{Query, queryOf, detailBudgetExhausted, World, world, Flow, go, halt, each}
-use Rattle.rules.specs.Push.{addLoadIfBoxed, pushGeometry, pushText, pushNode}
-use Rattle.rules.specs.Visit.{haltWithCell, geometryStep, textStep, nodeStep}
-use Rattle.rules.specs.Tape.{noTag, onTape}
-use Rattle.rules.proofs.Paths.Loops.{each-go, each-halt, each-done}
-use Rattle.rules.proofs.Paths.Cells.{geometry-step-exhausted, geometry-step-goes, text-step-exhausted, text-step-goes, node-step-exhausted, node-step-with-room}
+use Rattle.abstract_sheet.specs.Sheet.{Numbers, CellRecord, Sheet, sheetOf, cellRecordAt}
+use Rattle.plan_rules.specs.declared.ScenePlan.{ScenePlan}
+use Rattle.plan_rules.specs.declared.SceneOptions.{SceneOptions}
+use Rattle.plan_rules.specs.World.{Query, queryOf, detailBudgetExhausted, World, world, Flow, go, halt, each}
+use Rattle.plan_rules.specs.Push.{addLoadIfBoxed, pushGeometry, pushText, pushNode}
+use Rattle.plan_rules.specs.Visit.{haltWithCell, geometryStep, textStep, nodeStep}
+use Rattle.plan_rules.specs.Tape.{noTag, onTape}
+use Rattle.plan_rules.proofs.Paths.Loops.{each-go, each-halt, each-done}
+use Rattle.plan_rules.proofs.Paths.Cells.{geometry-step-exhausted, geometry-step-goes, text-step-exhausted, text-step-goes, node-step-exhausted, node-step-with-room}
 use Rattle.pushes.proofs.Start.{each-from}
 
 -- ---- Definitions

@@ -4,15 +4,15 @@ use crate::lists::push_nodes;
 use crate::lists::push_texts;
 use geometry::bbox::Bounds;
 use geometry::placement::Placement;
-use rules::SceneOptions;
-use rules::ScenePlan;
+use plan_rules::SceneOptions;
+use plan_rules::ScenePlan;
 ghost use mathlib.Core.Path.{_≡_};
 ghost use mathlib.Core.List.{List};
 ghost use Prim.Native.Nat.{ℕ};
-ghost use Rattle.layout.specs.Sheet.{sheetOf, cellRecordAt};
-ghost use Rattle.rules.specs.World.{queryOf, world, each, ending};
-ghost use Rattle.rules.specs.Visit.{VisitReference, referenceStep, cellBody};
-ghost use Rattle.rules.specs.Tape.{noTag, onTape};
+ghost use Rattle.abstract_sheet.specs.Sheet.{sheetOf, cellRecordAt};
+ghost use Rattle.plan_rules.specs.World.{queryOf, world, each, ending};
+ghost use Rattle.plan_rules.specs.Visit.{VisitReference, referenceStep, cellBody};
+ghost use Rattle.plan_rules.specs.Tape.{noTag, onTape};
 
 mod lists; // the loop over each list
 

@@ -2,21 +2,21 @@
 // At an exhausted budget the cell's box is added, if it has one, and the visit is over.
 use geometry::bbox::Bounds;
 use geometry::placement::Placement;
+use plan_rules::SceneOptions;
+use plan_rules::ScenePlan;
 use pushes::Visited;
 use pushes::add_load_if_boxed;
 use pushes::detail_budget_exhausted;
 use pushes::push_geometry;
 use pushes::push_node;
 use pushes::push_text;
-use rules::SceneOptions;
-use rules::ScenePlan;
 ghost use mathlib.Core.Path.{_≡_};
 ghost use mathlib.Core.List.{List};
 ghost use Prim.Native.Nat.{ℕ};
-ghost use Rattle.layout.specs.Sheet.{sheetOf, cellRecordAt};
-ghost use Rattle.rules.specs.World.{queryOf, world, flow, each};
-ghost use Rattle.rules.specs.Visit.{geometryStep, textStep, nodeStep};
-ghost use Rattle.rules.specs.Tape.{noTag, onTape};
+ghost use Rattle.abstract_sheet.specs.Sheet.{sheetOf, cellRecordAt};
+ghost use Rattle.plan_rules.specs.World.{queryOf, world, flow, each};
+ghost use Rattle.plan_rules.specs.Visit.{geometryStep, textStep, nodeStep};
+ghost use Rattle.plan_rules.specs.Tape.{noTag, onTape};
 
 pub fn push_geometries(
     sheet: &[u8],

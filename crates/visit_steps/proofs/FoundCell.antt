@@ -7,13 +7,13 @@ use mathlib.Core.Option.{some}
 use Prim.Native.Nat.{ℕ}
 use Rattle.geometry.specs.declared.bbox.Bounds.{Bounds}
 use Rattle.geometry.specs.declared.placement.Placement.{Placement}
-use Rattle.layout.specs.Sheet.{CellRecord, Sheet}
-use Rattle.rules.specs.Event.{detailCell}
-use Rattle.rules.specs.World.{Query, detailCellsFull, detailBudgetExhausted, World, ending, setMark}
-use Rattle.rules.specs.Scratch.{openPlace, isMarked}
-use Rattle.rules.specs.Push.{say, addLoadIfBoxed}
-use Rattle.rules.specs.Visit.{transformBounds, isOutside, VisitReference, cellBody, visitFoundCell}
-use Rattle.rules.specs.Tape.{noTag, onTape}
+use Rattle.abstract_sheet.specs.Sheet.{CellRecord, Sheet}
+use Rattle.plan_rules.specs.Event.{detailCell}
+use Rattle.plan_rules.specs.World.{Query, detailCellsFull, detailBudgetExhausted, World, ending, setMark}
+use Rattle.plan_rules.specs.Scratch.{openPlace, isMarked}
+use Rattle.plan_rules.specs.Push.{say, addLoadIfBoxed}
+use Rattle.plan_rules.specs.Visit.{transformBounds, isOutside, VisitReference, cellBody, visitFoundCell}
+use Rattle.plan_rules.specs.Tape.{noTag, onTape}
 
 module _ (S : Sheet) (cells : ℕ) (q : Query) (visit : VisitReference noTag onTape S cells q) (n : ℕ) (p : Placement) (c : CellRecord) (w : World (List ℕ)) (box : Bounds) (placed : box ≡ transformBounds p (c .bbox)) where
   abbrev visited : World (List ℕ)

@@ -15,13 +15,13 @@ use Rattle.geometry.specs.Bbox.{transformBbox, overlaps, sourceIsDegenerate}
 use Rattle.geometry.specs.Grid.{gridMemberTransform}
 use Rattle.geometry.specs.Screen.{referenceScreenSize, isSubpixel, shouldCollapseReference}
 use Rattle.records.specs.declared.PreparedReference.{PreparedReference}
-use Rattle.layout.specs.Sheet.{Sheet}
-use Rattle.rules.specs.Event.{skippedMember, culledReference}
-use Rattle.rules.specs.World.{Query, detailBudgetExhausted, World, Flow, go, halt}
-use Rattle.rules.specs.Push.{say, addLoad}
-use Rattle.rules.specs.Visit.{VisitSource, label, haltWithMember, memberStep}
-use Rattle.rules.specs.Tape.{noTag, onTape}
-use Rattle.rules.proofs.Paths.References.{member-exhausted, member-culled, member-skipped, member-collapsed}
+use Rattle.abstract_sheet.specs.Sheet.{Sheet}
+use Rattle.plan_rules.specs.Event.{skippedMember, culledReference}
+use Rattle.plan_rules.specs.World.{Query, detailBudgetExhausted, World, Flow, go, halt}
+use Rattle.plan_rules.specs.Push.{say, addLoad}
+use Rattle.plan_rules.specs.Visit.{VisitSource, label, haltWithMember, memberStep}
+use Rattle.plan_rules.specs.Tape.{noTag, onTape}
+use Rattle.plan_rules.proofs.Paths.References.{member-exhausted, member-culled, member-skipped, member-collapsed}
 
 -- ---- where member i stands
 

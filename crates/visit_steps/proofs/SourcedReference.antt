@@ -12,14 +12,14 @@ use Rattle.geometry.specs.declared.placement.Placement.{Placement}
 use Rattle.geometry.specs.Bbox.{bbox, transformBbox, overlaps}
 use Rattle.geometry.specs.Grid.{referenceBbox}
 use Rattle.records.specs.declared.PreparedReference.{PreparedReference}
-use Rattle.layout.specs.Sheet.{Sheet}
-use Rattle.rules.specs.declared.ScenePlan.{ScenePlan}
-use Rattle.rules.specs.Event.{culledReference}
-use Rattle.rules.specs.World.{Query, detailCellsFull, detailBudgetExhausted, World, world}
-use Rattle.rules.specs.DrawUnits.{referenceDrawUnits}
-use Rattle.rules.specs.Push.{say, addLoad}
-use Rattle.rules.specs.Visit.{label, VisitSource, visitCountedReference, visitBoxedReference, visitSourcedReference}
-use Rattle.rules.specs.Tape.{noTag, onTape}
+use Rattle.abstract_sheet.specs.Sheet.{Sheet}
+use Rattle.plan_rules.specs.declared.ScenePlan.{ScenePlan}
+use Rattle.plan_rules.specs.Event.{culledReference}
+use Rattle.plan_rules.specs.World.{Query, detailCellsFull, detailBudgetExhausted, World, world}
+use Rattle.plan_rules.specs.DrawUnits.{referenceDrawUnits}
+use Rattle.plan_rules.specs.Push.{say, addLoad}
+use Rattle.plan_rules.specs.Visit.{label, VisitSource, visitCountedReference, visitBoxedReference, visitSourcedReference}
+use Rattle.plan_rules.specs.Tape.{noTag, onTape}
 
 -- the answer of `over`: whatever would be left to do, the world stays
 pub is-over : (goes : Bool) (after before : ScenePlan) (left : World (List ℕ)) (o m k : List ℕ) → (after ≡ before) × (goes ≡ false) → cond goes left (world after o m k) ≡ world before o m k

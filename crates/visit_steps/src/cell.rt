@@ -1,18 +1,18 @@
 // `visit_cell` up to its loops: outside the view, boxed for a limit or a circle, or opened.
 use geometry::bbox::Bounds;
 use geometry::placement::Placement;
-use rules::SceneOptions;
-use rules::ScenePlan;
+use plan_rules::SceneOptions;
+use plan_rules::ScenePlan;
 ghost use mathlib.Core.Path.{_≡_};
 ghost use mathlib.Core.Bool.{cond};
 ghost use mathlib.Core.List.{List};
 ghost use mathlib.Core.Option.{some};
 ghost use Prim.Native.Nat.{ℕ};
-ghost use Rattle.layout.specs.Sheet.{Sheet, cellRecordAt};
-ghost use Rattle.rules.specs.World.{queryOf, world, ending, setMark};
-ghost use Rattle.rules.specs.Scratch.{openPlace};
-ghost use Rattle.rules.specs.Visit.{VisitReference, cellBody, visitFoundCell};
-ghost use Rattle.rules.specs.Tape.{noTag, onTape};
+ghost use Rattle.abstract_sheet.specs.Sheet.{Sheet, cellRecordAt};
+ghost use Rattle.plan_rules.specs.World.{queryOf, world, ending, setMark};
+ghost use Rattle.plan_rules.specs.Scratch.{openPlace};
+ghost use Rattle.plan_rules.specs.Visit.{VisitReference, cellBody, visitFoundCell};
+ghost use Rattle.plan_rules.specs.Tape.{noTag, onTape};
 
 // The plan so far, whether the cell's lists are to be visited, and, if so, the cell's placed box.
 pub struct Entered {

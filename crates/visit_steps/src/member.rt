@@ -1,18 +1,18 @@
 // One member of a reference, up to the visit of its source.
 use geometry::bbox::WorldBBox;
 use geometry::placement::Placement;
+use plan_rules::SceneOptions;
+use plan_rules::ScenePlan;
 use records::PreparedReference;
-use rules::SceneOptions;
-use rules::ScenePlan;
 ghost use mathlib.Core.Path.{_≡_};
 ghost use mathlib.Core.Bool.{cond};
 ghost use mathlib.Core.List.{List};
 ghost use Prim.Native.Nat.{ℕ, _/_, _%_, _<_};
 ghost use Rattle.geometry.specs.Grid.{gridCount};
-ghost use Rattle.layout.specs.Sheet.{Sheet};
-ghost use Rattle.rules.specs.World.{queryOf, world, flow};
-ghost use Rattle.rules.specs.Visit.{VisitSource, label, haltWithMember, memberStep};
-ghost use Rattle.rules.specs.Tape.{noTag, onTape};
+ghost use Rattle.abstract_sheet.specs.Sheet.{Sheet};
+ghost use Rattle.plan_rules.specs.World.{queryOf, world, flow};
+ghost use Rattle.plan_rules.specs.Visit.{VisitSource, label, haltWithMember, memberStep};
+ghost use Rattle.plan_rules.specs.Tape.{noTag, onTape};
 
 // The plan so far; whether the member's source is to be visited, with the member's placement and box; if not, whether the visit of the reference goes on.
 pub struct Tried {

@@ -2,20 +2,20 @@
 use geometry::bbox::Bounds;
 use geometry::bbox::WorldBBox;
 use geometry::placement::Placement;
+use plan_rules::SceneOptions;
+use plan_rules::ScenePlan;
 use records::PreparedReference;
-use rules::SceneOptions;
-use rules::ScenePlan;
 ghost use mathlib.Core.Path.{_≡_};
 ghost use mathlib.Core.Bool.{cond, false};
 ghost use mathlib.Core.List.{List};
 ghost use Prim.Native.Nat.{ℕ};
 ghost use Rattle.geometry.specs.Bbox.{sourceIsDegenerate};
 ghost use Rattle.geometry.specs.Screen.{referenceScreenSize, shouldCollapseReference};
-ghost use Rattle.layout.specs.Sheet.{Sheet};
-ghost use Rattle.rules.specs.World.{queryOf, world};
-ghost use Rattle.rules.specs.DrawUnits.{referenceDrawUnits};
-ghost use Rattle.rules.specs.Visit.{VisitSource, visitCountedReference, visitSourcedReference};
-ghost use Rattle.rules.specs.Tape.{noTag, onTape};
+ghost use Rattle.abstract_sheet.specs.Sheet.{Sheet};
+ghost use Rattle.plan_rules.specs.World.{queryOf, world};
+ghost use Rattle.plan_rules.specs.DrawUnits.{referenceDrawUnits};
+ghost use Rattle.plan_rules.specs.Visit.{VisitSource, visitCountedReference, visitSourcedReference};
+ghost use Rattle.plan_rules.specs.Tape.{noTag, onTape};
 
 // The plan so far, whether the reference's draw units are to be counted, and, if so, its source's box and its own placed box.
 pub struct Opened {

@@ -4,7 +4,7 @@ use mathlib.Core.Path.{_≡_, refl, sym, ap, _∙_}
 use Prim.Native.Nat.{ℕ, zero, suc, _+_, _*_, _/_, _%_, _≤_, _<_}
 use native.Mathlib.Nat.{add-mul-div-right, add-mul-mod-self-right, div-eq-of-lt, mod-eq-of-lt, zero-mul}
 use native.Mathlib.Omega.{arith}
-use Rattle.rules.specs.World.{World, Flow, go, halt, bind, each}
+use Rattle.plan_rules.specs.World.{World, Flow, go, halt, bind, each}
 
 module _ {A : Type 0} where
   after-bind : (x : Flow A) (f g : World A → Flow A) → ((v : World A) → f v ≡ g v) → bind x f ≡ bind x g

@@ -4,7 +4,7 @@ use Prim.Native.Nat.{ℕ, _*_, _/_, _≤_, _<_, max}
 use native.Mathlib.Nat.{div-eq-of-lt, le-div-iff-mul-le}
 use native.Mathlib.Omega.{arith}
 use borrow.Author.Tests.{eq-eqb, ne-eqb}
-use Rattle.rules.specs.Visit.{sourceUnits}
+use Rattle.plan_rules.specs.Visit.{sourceUnits}
 
 at-least-one : (x : ℕ) → 1 ≤ x → x ≡ max x 1
 at-least-one x h = omega arith

@@ -2,14 +2,14 @@
 use geometry::bbox::Bounds;
 use geometry::bbox::WorldBBox;
 use geometry::placement::Placement;
+use plan_rules::SceneOptions;
+use plan_rules::ScenePlan;
 use records::PreparedSource;
-use rules::SceneOptions;
-use rules::ScenePlan;
 ghost use mathlib.Core.Path.{_≡_};
 ghost use mathlib.Core.List.{List};
 ghost use Prim.Native.Nat.{ℕ};
-ghost use Rattle.rules.specs.World.{queryOf, detailCellsFull};
-ghost use Rattle.rules.specs.Visit.{label, transformBounds, isOutside, sourceUnits};
+ghost use Rattle.plan_rules.specs.World.{queryOf, detailCellsFull};
+ghost use Rattle.plan_rules.specs.Visit.{label, transformBounds, isOutside, sourceUnits};
 
 const MAX_DETAIL_CELLS: u64 = 20_000;
 

@@ -15,15 +15,15 @@ use Rattle.walk.specs.Find.{find}
 use Rattle.records.specs.declared.PreparedSource.{PreparedSource}
 use Rattle.records.specs.declared.PreparedSource.the-variants.{Geometry, Text, Node, Reference, Cell}
 use Rattle.records.specs.Records.{cellReferenceAt}
-use Rattle.layout.specs.Sheet.{sheetOf, cellRecordAt, cells}
-use Rattle.layout.specs.Lookup.{item-read}
-use Rattle.rules.specs.declared.ScenePlan.{ScenePlan}
-use Rattle.rules.specs.World.{Query, detailBudgetExhausted, World, world, Flow, go, halt, each, ending, setMark}
-use Rattle.rules.specs.Scratch.{openPlace}
-use Rattle.rules.specs.Push.{addLoadIfBoxed, pushGeometry, pushText, pushNode}
-use Rattle.rules.specs.Visit.{referenceStep, cellBody, visitFoundCell, visitReference, visitSource, visitCell}
-use Rattle.rules.specs.Tape.{noTag, onTape}
-use Rattle.rules.proofs.Paths.Cells as Paths
+use Rattle.abstract_sheet.specs.Sheet.{sheetOf, cellRecordAt, cells}
+use Rattle.abstract_sheet.specs.Lookup.{item-read}
+use Rattle.plan_rules.specs.declared.ScenePlan.{ScenePlan}
+use Rattle.plan_rules.specs.World.{Query, detailBudgetExhausted, World, world, Flow, go, halt, each, ending, setMark}
+use Rattle.plan_rules.specs.Scratch.{openPlace}
+use Rattle.plan_rules.specs.Push.{addLoadIfBoxed, pushGeometry, pushText, pushNode}
+use Rattle.plan_rules.specs.Visit.{referenceStep, cellBody, visitFoundCell, visitReference, visitSource, visitCell}
+use Rattle.plan_rules.specs.Tape.{noTag, onTape}
+use Rattle.plan_rules.proofs.Paths.Cells as Paths
 
 -- one turn of the loop over the references of the cell at an offset
 abbrev pub turn : List ℕ → ℕ → Query → ℕ → ℕ → ℕ → Placement → Bounds → ℕ → World (List ℕ) → Flow (List ℕ)

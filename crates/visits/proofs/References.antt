@@ -18,16 +18,16 @@ use Rattle.walk.specs.declared.Found.the-variants.{At, Nothing}
 use Rattle.walk.specs.Find.{find}
 use Rattle.records.specs.declared.PreparedReference.{PreparedReference}
 use Rattle.records.specs.Records.{referenceAt}
-use Rattle.layout.specs.Sheet.{sheetOf, references}
-use Rattle.layout.specs.Lookup.{item-read}
-use Rattle.rules.specs.declared.SceneOptions.{SceneOptions}
-use Rattle.rules.specs.Event.{nodeGridLimit, after, _⊞_}
-use Rattle.rules.specs.World.{Query, queryOf, World, world, Flow, go, halt, flow, ending, each}
-use Rattle.rules.specs.DrawUnits.{Units, counted}
-use Rattle.rules.specs.Push.{say, addLoad}
-use Rattle.rules.specs.Visit.{VisitSource, label, sourceUnits, haltWithMember, memberStep, columnStep, visitCountedReference, visitSourcedReference, visitFoundReference, visitReference, visitSource}
-use Rattle.rules.specs.Tape.{noTag, onTape, putRecord}
-use Rattle.rules.proofs.Paths.References as Paths
+use Rattle.abstract_sheet.specs.Sheet.{sheetOf, references}
+use Rattle.abstract_sheet.specs.Lookup.{item-read}
+use Rattle.plan_rules.specs.declared.SceneOptions.{SceneOptions}
+use Rattle.plan_rules.specs.Event.{nodeGridLimit, after, _⊞_}
+use Rattle.plan_rules.specs.World.{Query, queryOf, World, world, Flow, go, halt, flow, ending, each}
+use Rattle.plan_rules.specs.DrawUnits.{Units, counted}
+use Rattle.plan_rules.specs.Push.{say, addLoad}
+use Rattle.plan_rules.specs.Visit.{VisitSource, label, sourceUnits, haltWithMember, memberStep, columnStep, visitCountedReference, visitSourcedReference, visitFoundReference, visitReference, visitSource}
+use Rattle.plan_rules.specs.Tape.{noTag, onTape, putRecord}
+use Rattle.plan_rules.proofs.Paths.References as Paths
 use Rattle.visit_values.proofs.Members.{memberAt, members-in-one-loop}
 
 -- ---- the two answers of `open_reference`: its draw units are to be counted, or nothing is left to do

@@ -2,16 +2,16 @@
 // Depth and call position fall: a reference visits its source one depth below, a source a cell or a reference, and a cell its references, at its own depth.
 // Every function is total. What it leaves of the plan, the output and the scratch is what the rules' definition of the same name says.
 use geometry::placement::Placement;
+use plan_rules::SceneOptions;
+use plan_rules::ScenePlan;
 use pushes::Visited;
 use records::PreparedSource;
-use rules::SceneOptions;
-use rules::ScenePlan;
 use walk::Found;
 ghost use mathlib.Core.Path.{_≡_};
-ghost use Rattle.layout.specs.Sheet.{sheetOf};
-ghost use Rattle.rules.specs.World.{queryOf, world, flow};
-ghost use Rattle.rules.specs.Visit.{visitCell, visitReference, visitSource};
-ghost use Rattle.rules.specs.Tape.{noTag, onTape};
+ghost use Rattle.abstract_sheet.specs.Sheet.{sheetOf};
+ghost use Rattle.plan_rules.specs.World.{queryOf, world, flow};
+ghost use Rattle.plan_rules.specs.Visit.{visitCell, visitReference, visitSource};
+ghost use Rattle.plan_rules.specs.Tape.{noTag, onTape};
 
 pub fn visit_cell(
     sheet: &[u8],

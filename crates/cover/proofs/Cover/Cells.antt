@@ -10,22 +10,22 @@ use Rattle.geometry.specs.declared.placement.Placement.{Placement}
 use Rattle.geometry.specs.declared.bbox.WorldBBox.{WorldBBox}
 use Rattle.geometry.specs.declared.bbox.Bounds.{Bounds}
 use Rattle.geometry.specs.Bbox.{boxed, transformBbox}
-use Rattle.layout.specs.Sheet.{CellRecord, Sheet}
+use Rattle.abstract_sheet.specs.Sheet.{CellRecord, Sheet}
 use Rattle.exact.specs.Placement.{ExactPlacement, IsPlacement, AtLevel, deepestLevel}
 use Rattle.exact.specs.Box.{IsBox, boxOf, place}
-use Rattle.rules.specs.Event.{detailCell, Step, batchAt, textAt, nodeAt, referenceAt}
-use Rattle.rules.specs.World.{Query, detailCellsFull, detailBudgetExhausted, World, Flow, go, halt, ending, each, setMark}
-use Rattle.rules.specs.Scratch.{openPlace, isMarked}
-use Rattle.rules.specs.Push.{say, addLoadIfBoxed, pushGeometry, pushText, pushNode}
-use Rattle.rules.specs.Visit.{transformBounds, isOutside, haltWithCell, VisitReference, geometryStep, textStep, nodeStep, referenceStep, cellBody, visitFoundCell, visitReference}
-use Rattle.rules.specs.Tape.{note}
-use Rattle.rules.proofs.Invariant.{geometry-step-kept, text-step-kept, node-step-kept, reference-step-kept}
+use Rattle.plan_rules.specs.Event.{detailCell, Step, batchAt, textAt, nodeAt, referenceAt}
+use Rattle.plan_rules.specs.World.{Query, detailCellsFull, detailBudgetExhausted, World, Flow, go, halt, ending, each, setMark}
+use Rattle.plan_rules.specs.Scratch.{openPlace, isMarked}
+use Rattle.plan_rules.specs.Push.{say, addLoadIfBoxed, pushGeometry, pushText, pushNode}
+use Rattle.plan_rules.specs.Visit.{transformBounds, isOutside, haltWithCell, VisitReference, geometryStep, textStep, nodeStep, referenceStep, cellBody, visitFoundCell, visitReference}
+use Rattle.plan_rules.specs.Tape.{note}
+use Rattle.plan_rules.proofs.Invariant.{geometry-step-kept, text-step-kept, node-step-kept, reference-step-kept}
 use Rattle.cover.specs.Path.{Path, Item}
 use Rattle.cover.specs.Square.{Square}
 use Rattle.cover.specs.View.{WithinBox, WholeView, InView}
 use Rattle.cover.specs.Trace.{enter}
 use Rattle.cover.proofs.Tests.{cond-case}
-use Rattle.cover.proofs.Ways.{Tagged}
+use Rattle.cover.proofs.TagPaths.{Tagged}
 use Rattle.cover.proofs.Reading.{bounds-square}
 use Rattle.cover.proofs.Exactness.{placed-box}
 use Rattle.cover.proofs.Loops.{OnGo, OnHalt, Keeps, each-halts, each-keeps, each-covers, in-first, in-second, in-third, in-fourth}

@@ -12,19 +12,19 @@ use Rattle.geometry.specs.Bbox.{boxed, overlaps}
 use Rattle.exact.specs.Box.{IntegerBox, Touches, IsBox, boxOf}
 use Rattle.exact.proofs.Boxes.Relations.{holds-touches, encloses-touches}
 use Rattle.exact.proofs.Boxes.Tests.{overlaps-exact}
-use Rattle.rules.specs.declared.ScenePlan.{ScenePlan}
-use Rattle.rules.specs.Limits.{maxLoadProxies}
-use Rattle.rules.specs.Event.{Event, proxy, droppedProxy, nodeGridLimit, Step, member, after}
-use Rattle.rules.specs.World.{World}
-use Rattle.rules.specs.Push.{say, addLoad, addLoadIfBoxed}
-use Rattle.rules.specs.Tape.{note}
-use Rattle.rules.proofs.Simulation.Premises.{Room}
+use Rattle.plan_rules.specs.declared.ScenePlan.{ScenePlan}
+use Rattle.plan_rules.specs.Limits.{maxLoadProxies}
+use Rattle.plan_rules.specs.Event.{Event, proxy, droppedProxy, nodeGridLimit, Step, member, after}
+use Rattle.plan_rules.specs.World.{World}
+use Rattle.plan_rules.specs.Push.{say, addLoad, addLoadIfBoxed}
+use Rattle.plan_rules.specs.Tape.{note}
+use Rattle.plan_rules.proofs.Simulation.Premises.{Room}
 use Rattle.cover.specs.Path.{Path, Item, aBatch, aText, aPoint}
 use Rattle.cover.specs.View.{placedBatch, textPosition, pointPosition, WithinBox, WholeView, InView}
 use Rattle.cover.specs.Trace.{enter, Any, here, before}
 use Rattle.cover.specs.Covered.{Lists, IsSkip, Later}
 use Rattle.cover.proofs.Tests.{cond-case, not-not}
-use Rattle.cover.proofs.Ways.{Tagged, back}
+use Rattle.cover.proofs.TagPaths.{Tagged, back}
 use Rattle.cover.proofs.Enclosure.{HasElements}
 
 -- ---- items in view

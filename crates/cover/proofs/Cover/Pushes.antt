@@ -15,23 +15,23 @@ use Rattle.records.specs.declared.PreparedSource.the-variants.{Geometry, Text, 
 use Rattle.records.specs.declared.PreparedGeometry.{PreparedGeometry}
 use Rattle.records.specs.declared.PreparedText.{PreparedText}
 use Rattle.records.specs.declared.PreparedReference.{PreparedReference}
-use Rattle.layout.specs.Sheet.{NodeRecord, Sheet}
+use Rattle.abstract_sheet.specs.Sheet.{NodeRecord, Sheet}
 use Rattle.exact.specs.Placement.{ExactPlacement, IsPlacement, AtLevel, deepestLevel}
 use Rattle.exact.specs.Box.{boxOf}
 use Rattle.exact.proofs.Boxes.Relations.{encloses-self}
 use Rattle.exact.proofs.Boxes.Tests.{point-in-bbox-exact}
-use Rattle.rules.specs.Event.{batch, text, point, skippedBatch, Step, member, pointAt}
-use Rattle.rules.specs.World.{Query, hides, detailBudgetExhausted, World}
-use Rattle.rules.specs.Push.{noLabel, pushFoundGeometry, pushGeometry, pushFoundText, pushText, pushPoint, pushFoundNode, pushNode}
-use Rattle.rules.specs.Tape.{note}
-use Rattle.rules.proofs.Invariant.{point-kept}
+use Rattle.plan_rules.specs.Event.{batch, text, point, skippedBatch, Step, member, pointAt}
+use Rattle.plan_rules.specs.World.{Query, hides, detailBudgetExhausted, World}
+use Rattle.plan_rules.specs.Push.{noLabel, pushFoundGeometry, pushGeometry, pushFoundText, pushText, pushPoint, pushFoundNode, pushNode}
+use Rattle.plan_rules.specs.Tape.{note}
+use Rattle.plan_rules.proofs.Invariant.{point-kept}
 use Rattle.cover.specs.Path.{Path, Item, aBatch, aText, aPoint, memberAt, StepLeads, to-batch, to-text, to-node, to-reference, through-member, Leads, at-batch, at-text, at-point, step}
 use Rattle.cover.specs.Square.{Square}
 use Rattle.cover.specs.View.{placedBatch, textPosition, pointPosition, WholeView, InView, Shown}
 use Rattle.cover.specs.Trace.{enter}
 use Rattle.cover.specs.Covered.{lists-batch, lists-text, lists-point, batch-skip}
 use Rattle.cover.proofs.Tests.{cond-case, not-not, lacks-not-contains}
-use Rattle.cover.proofs.Ways.{Tagged, back}
+use Rattle.cover.proofs.TagPaths.{Tagged, back}
 use Rattle.cover.proofs.Exactness.{placed-box, moved-point}
 use Rattle.cover.proofs.Loops.{OnGo, each-goes}
 use Rattle.cover.proofs.Cover.Claims.{not-culled, by-record, by-skip, Claimed, Grown, grown, say-claims, load-claims}

@@ -16,17 +16,17 @@ use Rattle.geometry.specs.Bbox.{boxed, transformBbox, overlaps, sourceIsDegener
 use Rattle.geometry.specs.Grid.{gridCount, gridMemberTransform, cornersBbox}
 use Rattle.geometry.specs.Screen.{referenceScreenSize, isSubpixel, shouldCollapseReference}
 use Rattle.records.specs.declared.PreparedReference.{PreparedReference}
-use Rattle.layout.specs.Sheet.{Sheet}
+use Rattle.abstract_sheet.specs.Sheet.{Sheet}
 use Rattle.exact.specs.Placement.{ExactPlacement, IsPlacement, AtLevel, deepestLevel}
 use Rattle.exact.specs.Member.{gridOf}
 use Rattle.exact.specs.Box.{IntegerBox, IsBox, boxOf, place, referenceBox}
 use Rattle.exact.proofs.Boxes.ReferenceRounded.{reference-bbox-present}
-use Rattle.rules.specs.Event.{skippedMember, nodeGridLimit, Step, member}
-use Rattle.rules.specs.World.{Query, detailCellsFull, detailBudgetExhausted, World, Flow, go, halt, ending, each}
-use Rattle.rules.specs.DrawUnits.{referenceDrawUnits}
-use Rattle.rules.specs.Push.{say, addLoad}
-use Rattle.rules.specs.Visit.{label, sourceUnits, haltWithMember, withScratch, VisitSource, memberStep, columnStep, visitCountedReference, visitBoxedReference, visitSourcedReference, visitFoundReference}
-use Rattle.rules.specs.Tape.{note}
+use Rattle.plan_rules.specs.Event.{skippedMember, nodeGridLimit, Step, member}
+use Rattle.plan_rules.specs.World.{Query, detailCellsFull, detailBudgetExhausted, World, Flow, go, halt, ending, each}
+use Rattle.plan_rules.specs.DrawUnits.{referenceDrawUnits}
+use Rattle.plan_rules.specs.Push.{say, addLoad}
+use Rattle.plan_rules.specs.Visit.{label, sourceUnits, haltWithMember, withScratch, VisitSource, memberStep, columnStep, visitCountedReference, visitBoxedReference, visitSourcedReference, visitFoundReference}
+use Rattle.plan_rules.specs.Tape.{note}
 use Rattle.cover.specs.Path.{Path, Item, memberAt}
 use Rattle.cover.specs.Square.{Square, FewMembers, SquareBox}
 use Rattle.cover.specs.TrueBoxes.{TrueBoxes}
@@ -34,7 +34,7 @@ use Rattle.cover.specs.View.{WithinBox, WholeView, InView}
 use Rattle.cover.specs.Trace.{enter, before}
 use Rattle.cover.specs.Covered.{Later, member-skip}
 use Rattle.cover.proofs.Tests.{cond-case, collapses-at-depth-1}
-use Rattle.cover.proofs.Ways.{Tagged, back}
+use Rattle.cover.proofs.TagPaths.{Tagged, back}
 use Rattle.cover.proofs.Reading.{bounds-square}
 use Rattle.cover.proofs.Exactness.{placed-box, member-placed, corners-placed}
 use Rattle.cover.proofs.Enclosure.{within-larger, member-in-reference-box}

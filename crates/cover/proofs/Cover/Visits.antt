@@ -13,25 +13,25 @@ use Rattle.geometry.specs.Bbox.{boxed, transformBbox, overlaps}
 use Rattle.geometry.specs.Grid.{gridMemberTransform, cornersBbox}
 use Rattle.records.specs.declared.PreparedSource.{PreparedSource}
 use Rattle.records.specs.declared.PreparedSource.the-variants.{Geometry, Text, Node, Reference, Cell}
-use Rattle.layout.specs.Sheet.{CellRecord, Sheet}
+use Rattle.abstract_sheet.specs.Sheet.{CellRecord, Sheet}
 use Rattle.exact.specs.Placement.{ExactPlacement, identity, IsPlacement, AtLevel}
 use Rattle.exact.specs.Box.{IntegerBox, Inside, boxOf, place}
 use Rattle.exact.proofs.Placements.Levels.{identity-level}
 use Rattle.exact.proofs.Placements.Moving.{identity-exact}
-use Rattle.rules.specs.Event.{Step, batchAt, textAt, nodeAt, referenceAt, member}
-use Rattle.rules.specs.World.{Query, World, go, ending}
-use Rattle.rules.specs.Push.{say, addLoadIfBoxed}
-use Rattle.rules.specs.Visit.{transformBounds, VisitSource, cellBody, visitFoundCell, visitSourceWith, visitFoundReference, visitReference, visitCell}
-use Rattle.rules.specs.Plan.{loadRootBox, loadRoot, visitRoot, plan}
-use Rattle.rules.specs.Tape.{note}
-use Rattle.rules.proofs.Invariant.{member-kept, column-kept}
+use Rattle.plan_rules.specs.Event.{Step, batchAt, textAt, nodeAt, referenceAt, member}
+use Rattle.plan_rules.specs.World.{Query, World, go, ending}
+use Rattle.plan_rules.specs.Push.{say, addLoadIfBoxed}
+use Rattle.plan_rules.specs.Visit.{transformBounds, VisitSource, cellBody, visitFoundCell, visitSourceWith, visitFoundReference, visitReference, visitCell}
+use Rattle.plan_rules.specs.Plan.{loadRootBox, loadRoot, visitRoot, plan}
+use Rattle.plan_rules.specs.Tape.{note}
+use Rattle.plan_rules.proofs.Invariant.{member-kept, column-kept}
 use Rattle.cover.specs.Path.{Path, Item, memberAt, StepLeads, to-batch, to-text, to-node, to-reference, Leads, step, LeadsTo}
 use Rattle.cover.specs.Square.{Square, FewMembers}
 use Rattle.cover.specs.TrueBoxes.{TrueBoxes}
 use Rattle.cover.specs.View.{WithinBox, WholeView, InView, Shown}
 use Rattle.cover.specs.Trace.{enter, before}
 use Rattle.cover.proofs.Tests.{cond-case}
-use Rattle.cover.proofs.Ways.{Tagged, back}
+use Rattle.cover.proofs.TagPaths.{Tagged, back}
 use Rattle.cover.proofs.Reading.{box-is, bounds-square}
 use Rattle.cover.proofs.Exactness.{member-placed}
 use Rattle.cover.proofs.Enclosure.{within-larger, in-source-box, enclosed}

@@ -13,7 +13,7 @@ use Rattle.geometry.specs.Bbox.{bbox, boxed}
 use Rattle.records.specs.declared.PreparedGeometry.{PreparedGeometry}
 use Rattle.records.specs.declared.PreparedText.{PreparedText}
 use Rattle.records.specs.declared.PreparedReference.{PreparedReference}
-use Rattle.layout.specs.Sheet.{NodeRecord, CellRecord}
+use Rattle.abstract_sheet.specs.Sheet.{NodeRecord, CellRecord}
 use Rattle.exact.specs.Integer.{integer, _≐_, _≼_}
 use Rattle.exact.specs.IsInteger.{IsInteger, integerOf}
 use Rattle.exact.specs.Placement.{vectorOf}
@@ -21,7 +21,7 @@ use Rattle.exact.specs.Box.{IntegerBox, Holds, Inside, pointBox, boxOf}
 use Rattle.exact.proofs.Integers.Bounds.{within-same, within-natural}
 use Rattle.exact.proofs.Floats.Rounding.{round-integer}
 use Rattle.exact.proofs.Floats.Reading.{integerOf-is, integerOf-same}
-use Rattle.rules.proofs.Cases.Samples.{whole, spot, nth, sheetOfLists}
+use Rattle.plan_rules.proofs.Cases.Samples.{whole, spot, nth, sheetOfLists}
 use Rattle.cover.specs.Square.{SquareNumber, SquareVector, SquareBox, SquareBounds, SquareGrid, Square, FewMembers}
 use Rattle.cover.specs.TrueBoxes.{Encloses, EnclosesBounds, SameBounds, TrueCellBox, TrueSourceBox, TrueBoxes}
 use Rattle.cover.specs.Trace.{Trace, All, none-left, and-then}

@@ -13,15 +13,15 @@ use Rattle.geometry.specs.Bbox.{boxed}
 use Rattle.records.specs.declared.PreparedSource.the-variants.{Node, Cell}
 use Rattle.records.specs.declared.PreparedText.{PreparedText}
 use Rattle.records.specs.declared.PreparedReference.{PreparedReference}
-use Rattle.layout.specs.Sheet.{NodeRecord, CellRecord, Sheet}
+use Rattle.abstract_sheet.specs.Sheet.{NodeRecord, CellRecord, Sheet}
 use Rattle.exact.specs.Placement.{vectorOf}
 use Rattle.exact.specs.Box.{IntegerBox, Holds, Inside, pointBox, boxOf}
 use Rattle.exact.specs.Screen.{ZoomWithin}
-use Rattle.rules.specs.Event.{text, point, proxy, nodeGridLimit, detailCell, textAt, referenceAt, member, pointAt}
-use Rattle.rules.specs.World.{Query}
-use Rattle.rules.specs.Push.{noLabel}
-use Rattle.rules.proofs.Cases.Opened.{opened}
-use Rattle.rules.proofs.Cases.Samples.{whole, spot, page, sheetOfLists, textAtSpot, nodeOf, refer, cellOf, viewing}
+use Rattle.plan_rules.specs.Event.{text, point, proxy, nodeGridLimit, detailCell, textAt, referenceAt, member, pointAt}
+use Rattle.plan_rules.specs.World.{Query}
+use Rattle.plan_rules.specs.Push.{noLabel}
+use Rattle.plan_rules.proofs.Cases.Opened.{opened}
+use Rattle.plan_rules.proofs.Cases.Samples.{whole, spot, page, sheetOfLists, textAtSpot, nodeOf, refer, cellOf, viewing}
 use Rattle.cover.specs.Square.{SquareVector, SquareGrid, Square, FewMembers}
 use Rattle.cover.specs.TrueBoxes.{Encloses, EnclosesBounds, IsLeastBox, referenceBounds, TrueCellBox, TrueBoxes}
 use Rattle.cover.specs.Trace.{Trace, events, none-left, and-then}

@@ -14,24 +14,24 @@ use lib.ListN.{replicate}
 use Rattle.geometry.specs.declared.bbox.Bounds.{Bounds}
 use Rattle.geometry.specs.Bbox.{boxed}
 use Rattle.records.specs.declared.PreparedText.{PreparedText}
-use Rattle.layout.specs.Sheet.{CellRecord, Sheet, cellRecordAt, sheetOf}
-use Rattle.layout.specs.Examples.{workedText, workedCell, workedSheet}
+use Rattle.abstract_sheet.specs.Sheet.{CellRecord, Sheet, cellRecordAt, sheetOf}
+use Rattle.abstract_sheet.specs.Examples.{workedText, workedCell, workedSheet}
 use Rattle.exact.specs.Placement.{vectorOf}
 use Rattle.exact.specs.Box.{pointBox}
 use Rattle.exact.specs.Screen.{zoomPower}
-use Rattle.rules.specs.Limits.{maxSceneObjects}
-use Rattle.rules.specs.Event.{text, detailCell, textAt}
-use Rattle.rules.specs.World.{Query}
-use Rattle.rules.specs.Outcome.{outcomeOf}
-use Rattle.rules.proofs.Cases.Opened.{opened}
-use Rattle.rules.proofs.Cases.OpenedSheet.{openedSheet}
-use Rattle.rules.proofs.Cases.Samples.{whole, spot, page, textAtSpot, viewing}
+use Rattle.plan_rules.specs.Limits.{maxSceneObjects}
+use Rattle.plan_rules.specs.Event.{text, detailCell, textAt}
+use Rattle.plan_rules.specs.World.{Query}
+use Rattle.plan_rules.specs.Outcome.{outcomeOf}
+use Rattle.plan_rules.proofs.Cases.Opened.{opened}
+use Rattle.plan_rules.proofs.Cases.OpenedSheet.{openedSheet}
+use Rattle.plan_rules.proofs.Cases.Samples.{whole, spot, page, textAtSpot, viewing}
 use Rattle.cover.specs.Square.{SquareVector, SquareBounds, Square}
 use Rattle.cover.specs.TrueBoxes.{Encloses, TrueCellBox, TrueBoxes}
 use Rattle.cover.specs.Trace.{Trace}
 use Rattle.cover.specs.Demand3.{LosesNothing, eventsOf, IsTape}
 use Rattle.cover.proofs.Reading.{box-is}
-use Rattle.cover.proofs.Call.{demand-3}
+use Rattle.cover.proofs.AcceptedCall.{demand-3}
 use Rattle.cover.proofs.Examples.Lists.{only, nothing-there, square-spot, Ordered, square-box, point-inside, square-bounds, boxed-encloses, withoutTotals}
 
 abbrev sheet : Sheet

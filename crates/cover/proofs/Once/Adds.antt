@@ -4,10 +4,10 @@ use mathlib.Core.Path.{_≡_, refl, subst}
 use mathlib.Core.Logic.{_⊎_, inl, inr}
 use mathlib.Core.List.{List, [], _∷_}
 use native.Mathlib.Omega.{arith}
-use Rattle.rules.specs.Event.{Event, Step, amounts}
-use Rattle.rules.specs.World.{World, Flow, go, halt, bind, ending}
+use Rattle.plan_rules.specs.Event.{Event, Step, amounts}
+use Rattle.plan_rules.specs.World.{World, Flow, go, halt, bind, ending}
 use Rattle.cover.specs.Trace.{Any, here, before, IsRecord, batch-record, text-record, point-record}
-use Rattle.cover.proofs.Ways.{Tagged}
+use Rattle.cover.proofs.TagPaths.{Tagged}
 
 -- ---- definitions
 

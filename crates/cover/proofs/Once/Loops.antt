@@ -8,9 +8,9 @@ use native.Mathlib.Omega.{arith}
 use lib.Dec.{eqb}
 use lib.ListN.{length, length-append}
 use borrow.Author.Tests.{eq-eqb, ne-eqb}
-use Rattle.rules.specs.Event.{Step, pointAt}
-use Rattle.rules.specs.World.{World, Flow, each}
-use Rattle.cover.proofs.Ways.{Tagged}
+use Rattle.plan_rules.specs.Event.{Step, pointAt}
+use Rattle.plan_rules.specs.World.{World, Flow, each}
+use Rattle.cover.proofs.TagPaths.{Tagged}
 use Rattle.cover.proofs.Once.Adds.{AddsFlow, adds-nothing, bind-adds}
 
 -- ---- tags that go on from a tag

@@ -15,15 +15,15 @@ use Rattle.geometry.specs.Bbox.{bbox, transformBbox, overlaps, pointInBbox}
 use Rattle.geometry.specs.Screen.{screenSize, isSubpixel, isDenseBatch}
 use Rattle.records.specs.declared.PreparedGeometry.{PreparedGeometry}
 use Rattle.records.specs.declared.PreparedText.{PreparedText}
-use Rattle.layout.specs.Sheet.{NodeRecord, Sheet}
-use Rattle.rules.specs.Limits.{maxLoadProxies}
-use Rattle.rules.specs.Event.{batch, text, point, proxy, droppedProxy, skippedBatch, culledBatch, Step, pointAt}
-use Rattle.rules.specs.World.{Query, hides, detailBudgetExhausted, World, Flow, ending}
-use Rattle.rules.specs.Push.{noLabel, say, addLoad, addLoadIfBoxed, pushFoundGeometry, pushFoundText, pushPoint, pushFoundNode}
-use Rattle.rules.specs.Tape.{note}
+use Rattle.abstract_sheet.specs.Sheet.{NodeRecord, Sheet}
+use Rattle.plan_rules.specs.Limits.{maxLoadProxies}
+use Rattle.plan_rules.specs.Event.{batch, text, point, proxy, droppedProxy, skippedBatch, culledBatch, Step, pointAt}
+use Rattle.plan_rules.specs.World.{Query, hides, detailBudgetExhausted, World, Flow, ending}
+use Rattle.plan_rules.specs.Push.{noLabel, say, addLoad, addLoadIfBoxed, pushFoundGeometry, pushFoundText, pushPoint, pushFoundNode}
+use Rattle.plan_rules.specs.Tape.{note}
 use Rattle.cover.specs.Trace.{enter}
 use Rattle.cover.proofs.Tests.{cond-case}
-use Rattle.cover.proofs.Ways.{Tagged}
+use Rattle.cover.proofs.TagPaths.{Tagged}
 use Rattle.cover.proofs.Once.Adds.{Adds, AddsWorld, AddsFlow, adds-nothing, adds-quiet, adds-record, adds-more}
 use Rattle.cover.proofs.Once.Loops.{Under, under-self, From, from-under, steps-add}
 

@@ -17,20 +17,20 @@ use Rattle.geometry.specs.Screen.{referenceScreenSize, isSubpixel, shouldCollap
 use Rattle.records.specs.declared.PreparedSource.{PreparedSource}
 use Rattle.records.specs.declared.PreparedSource.the-variants.{Geometry, Text, Node, Reference, Cell}
 use Rattle.records.specs.declared.PreparedReference.{PreparedReference}
-use Rattle.layout.specs.Sheet.{CellRecord, Sheet}
-use Rattle.rules.specs.Event.{Event, skippedMember, culledReference, nodeGridLimit, detailCell, totals, Step, batchAt, textAt, nodeAt, referenceAt, member, pointAt, emptyPlan}
-use Rattle.rules.specs.World.{Query, detailCellsFull, detailBudgetExhausted, World, world, Flow, go, halt, bind, ending, each, setMark}
-use Rattle.rules.specs.Scratch.{openPlace, isMarked}
-use Rattle.rules.specs.DrawUnits.{Units, referenceDrawUnits}
-use Rattle.rules.specs.Push.{say, addLoad, addLoadIfBoxed, pushGeometry, pushText, pushFoundNode, pushNode}
-use Rattle.rules.specs.Visit.{label, transformBounds, isOutside, sourceUnits, haltWithCell, haltWithMember, withScratch, VisitReference, VisitSource, geometryStep, textStep, nodeStep, referenceStep, cellBody, visitFoundCell, visitSourceWith, memberStep, columnStep, visitCountedReference, visitBoxedReference, visitSourcedReference, visitFoundReference, visitReference, visitCell}
-use Rattle.rules.specs.Plan.{loadRootBox, loadRoot, visitRoot, plan}
-use Rattle.rules.specs.Tape.{note}
+use Rattle.abstract_sheet.specs.Sheet.{CellRecord, Sheet}
+use Rattle.plan_rules.specs.Event.{Event, skippedMember, culledReference, nodeGridLimit, detailCell, totals, Step, batchAt, textAt, nodeAt, referenceAt, member, pointAt, emptyPlan}
+use Rattle.plan_rules.specs.World.{Query, detailCellsFull, detailBudgetExhausted, World, world, Flow, go, halt, bind, ending, each, setMark}
+use Rattle.plan_rules.specs.Scratch.{openPlace, isMarked}
+use Rattle.plan_rules.specs.DrawUnits.{Units, referenceDrawUnits}
+use Rattle.plan_rules.specs.Push.{say, addLoad, addLoadIfBoxed, pushGeometry, pushText, pushFoundNode, pushNode}
+use Rattle.plan_rules.specs.Visit.{label, transformBounds, isOutside, sourceUnits, haltWithCell, haltWithMember, withScratch, VisitReference, VisitSource, geometryStep, textStep, nodeStep, referenceStep, cellBody, visitFoundCell, visitSourceWith, memberStep, columnStep, visitCountedReference, visitBoxedReference, visitSourcedReference, visitFoundReference, visitReference, visitCell}
+use Rattle.plan_rules.specs.Plan.{loadRootBox, loadRoot, visitRoot, plan}
+use Rattle.plan_rules.specs.Tape.{note}
 use Rattle.cover.specs.Path.{Path}
 use Rattle.cover.specs.Trace.{enter, pathOf, withPaths, Any, here, before, IsRecord}
 use Rattle.cover.specs.Covered.{NoPathTwice}
 use Rattle.cover.proofs.Tests.{cond-case}
-use Rattle.cover.proofs.Ways.{Tagged, path-injective}
+use Rattle.cover.proofs.TagPaths.{Tagged, path-injective}
 use Rattle.cover.proofs.Once.Adds.{Recorded, Once, Adds, AddsWorld, AddsFlow, Nowhere, adds-nothing, adds-quiet, adds-more, quiet-after, quiet-before, bind-adds}
 use Rattle.cover.proofs.Once.Loops.{Under, under-up, same-step, From, from-under, each-adds, steps-add}
 use Rattle.cover.proofs.Once.Pushes.{load-adds, load-if-boxed-adds, geometry-adds, text-adds, node-adds}

@@ -4,8 +4,8 @@ use mathlib.Core.Path.{_≡_, sym, ap, _∙_}
 use mathlib.Core.List.{List}
 use Prim.Native.Nat.{ℕ}
 use borrow.Author.Needs.{needs}
-use Rattle.rules.specs.declared.Answer.{Answer}
-use Rattle.rules.specs.Outcome.{Outcome, outcome}
+use Rattle.plan_rules.specs.declared.Answer.{Answer}
+use Rattle.plan_rules.specs.Outcome.{Outcome, outcome}
 use Rattle.planner_c.proofs.scene_plan.Statement.{statement}
 use Rattle.planner_c.proofs.scene_plan.Tie as tie
 

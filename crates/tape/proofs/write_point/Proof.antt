@@ -1,7 +1,7 @@
 -- `tape::write_point` meets its contract: the record is written if it fits.
 -- Assumes nothing.
 use denote.Ref.{now}
-use Rattle.rules.specs.Event.{point}
+use Rattle.plan_rules.specs.Event.{point}
 use Rattle.tape.proofs.Room.{within, written, left-alone}
 use borrow.Author.Needs.{needs}
 use Rattle.tape.proofs.write_point.Statement.{statement}

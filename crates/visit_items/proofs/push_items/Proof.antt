@@ -6,8 +6,8 @@ use Prim.Native.Nat.{ℕ}
 use lib.ListN.{length}
 use denote.Ref.{now}
 use Rattle.records.specs.declared.PreparedCell.{PreparedCell}
-use Rattle.layout.specs.Sheet.{cellRecordAt}
-use Rattle.rules.specs.World.{World, world}
+use Rattle.abstract_sheet.specs.Sheet.{cellRecordAt}
+use Rattle.plan_rules.specs.World.{World, world}
 use Rattle.visit_items.proofs.Body
 use borrow.Author.Needs.{needs}
 use Rattle.visit_items.proofs.push_items.Statement.{statement}

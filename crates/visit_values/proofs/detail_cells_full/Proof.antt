@@ -1,6 +1,6 @@
 -- `visit_values::detail_cells_full` meets its contract. Assumes nothing.
 use mathlib.Core.Path.{refl}
-use Rattle.rules.specs.World.{detailCellsFull}
+use Rattle.plan_rules.specs.World.{detailCellsFull}
 use Rattle.visit_values.proofs.detail_cells_full.Statement.{statement}
 use Rattle.visit_values.proofs.detail_cells_full.Tie as tie
 

@@ -4,8 +4,8 @@ use mathlib.Core.Bool.{not}
 use Rattle.geometry.specs.declared.bbox.WorldBBox.{WorldBBox}
 use Rattle.geometry.specs.declared.bbox.Bounds.{Bounds}
 use Rattle.geometry.specs.Bbox.{overlaps}
-use Rattle.rules.specs.World.{queryOf}
-use Rattle.rules.specs.Visit.{isOutside}
+use Rattle.plan_rules.specs.World.{queryOf}
+use Rattle.plan_rules.specs.Visit.{isOutside}
 use borrow.Author.Needs.{needs}
 use Rattle.visit_values.proofs.is_outside.Statement.{statement}
 use Rattle.visit_values.proofs.is_outside.Tie as tie

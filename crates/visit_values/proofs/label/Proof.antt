@@ -1,7 +1,7 @@
 -- `visit_values::label` meets its contract. Assumes nothing.
 use mathlib.Core.Path.{_≡_, sym, ap, _∙_}
 use Rattle.records.specs.declared.PreparedSource.{PreparedSource}
-use Rattle.rules.specs.Visit.{label}
+use Rattle.plan_rules.specs.Visit.{label}
 use borrow.Author.Needs.{needs}
 use Rattle.visit_values.proofs.label.Statement.{statement}
 use Rattle.visit_values.proofs.label.Tie as tie

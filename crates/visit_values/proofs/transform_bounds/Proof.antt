@@ -2,7 +2,7 @@
 use mathlib.Core.Path.{_≡_, sym, ap, _∙_}
 use Rattle.geometry.specs.declared.bbox.Bounds.{Bounds}
 use Rattle.geometry.specs.Bbox.{transformBbox, boxed}
-use Rattle.rules.specs.Visit.{transformBounds}
+use Rattle.plan_rules.specs.Visit.{transformBounds}
 use borrow.Author.Needs.{needs}
 use Rattle.visit_values.proofs.transform_bounds.Statement.{statement}
 use Rattle.visit_values.proofs.transform_bounds.Tie as tie

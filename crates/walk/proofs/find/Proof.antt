@@ -25,9 +25,6 @@ loop-holds c = refl
 add-u16-at : tie.Need-add-u16-at Inv-loop μ-loop
 add-u16-at c = omega arith
 
-u16-at-requires : tie.Need-u16-at-requires Inv-loop μ-loop
-u16-at-requires c κs = search needs
-
 returns : tie.Need-returns Inv-loop μ-loop
 returns c =
     let i = c .before .before .before in
@@ -50,12 +47,6 @@ passed c xs =
     (λ w. find-next _ _ _ xs _ (sym (c .before .u16-at .ensures) ∙ w .0 .taken) (w .1 .left) ∙ ap left (sym (w .2)))
     (λ w. find-other _ _ (i .before .loop .at) xs _ (λ e. w .0 .left (c .before .u16-at .ensures ∙ e)) ∙ ap left (sym (w .1)))
     (c .if1 .came)
-
-u32-at-requires : tie.Need-u32-at-requires Inv-loop μ-loop
-u32-at-requires c κs = search needs
-
-cast-length : tie.Need-cast-length Inv-loop μ-loop
-cast-length c = search needs
 
 returns-2 : tie.Need-returns-2 Inv-loop μ-loop
 returns-2 c =
@@ -89,11 +80,11 @@ find-spec =
     μ-loop
     loop-holds
     add-u16-at
-    u16-at-requires
+    (λ c κs. search needs)
     returns
     sub-left
-    u32-at-requires
-    cast-length
+    (λ c κs. search needs)
+    (λ c. search needs)
     returns-2
     add-at
     loop-less

@@ -23,12 +23,6 @@ narrow-pattern-requires c κs =
     let x = c .before .args .x in
     subst (λ (b : Bool). T (not b)) (sym (nanBits-is binary64 (toBits binary64 x) ∙ ap isNan (ofBits-toBits binary64 x (held (c .before))))) (number-of-equal x (c .if1 .left))
 
-cast-result : tie.Need-cast-result
-cast-result c = search needs
-
-float-from-bits-result : tie.Need-float-from-bits-result
-float-from-bits-result c = search needs
-
 returns : tie.Need-returns
 returns c =
     zero-by-zero binary32 ∙ sym (ap narrow (nan-of-differs (c .before .args .x) (c .if1 .taken)) ∙ narrow-nan)
@@ -43,7 +37,7 @@ f64-to-f32-spec =
     (tie.spec
     float-to-bits-narrow-pattern
     narrow-pattern-requires
-    cast-result
-    float-from-bits-result
+    (λ c. search needs)
+    (λ c. search needs)
     returns
     returns-2)

@@ -12,33 +12,15 @@ use Rattle.floats.proofs.convert.narrow_pattern.Tie as tie
 finite : (c : tie.Else1) → exponentFieldOf (c .before .before .args .n) ≡ 2047 → ⊥
 finite c e = c .if1 .left (c .before .exponent-field-of .ensures ∙ e)
 
-exponent-field-of-requires : tie.Need-exponent-field-of-requires
-exponent-field-of-requires c κs = search needs
-
 returns : tie.Need-returns
 returns c =
     let s = c .before .before in
     narrow-infinite (s .args .n) (s .fits .n .fits) (sym (c .before .exponent-field-of .ensures) ∙ c .if1 .taken) (s .pre)
 
-significand-of-requires : tie.Need-significand-of-requires
-significand-of-requires c κs = search needs
-
 returns-2 : tie.Need-returns-2
 returns-2 c =
     let s = c .before .before .before .before in
     narrow-zero (s .args .n) (s .fits .n .fits) (finite (c .before .before)) (sym (c .before .significand-of .ensures) ∙ c .if2 .taken)
-
-leading-zeros-requires : tie.Need-leading-zeros-requires
-leading-zeros-requires c κs = search needs
-
-shl-pack : tie.Need-shl-pack
-shl-pack c = search needs
-
-exponent-of-requires : tie.Need-exponent-of-requires
-exponent-of-requires c κs = search needs
-
-add-pack : tie.Need-add-pack
-add-pack c = search needs
 
 pack-requires : tie.Need-pack-requires
 pack-requires c κs = omega (arith, exponent-lt (c .before .before .before .before .before .before .args .n))
@@ -56,13 +38,13 @@ pub narrow-pattern-spec : {M : Type 1} → statement M
 narrow-pattern-spec =
     tie.close
     (tie.spec
-    exponent-field-of-requires
+    (λ c κs. search needs)
     returns
-    significand-of-requires
+    (λ c κs. search needs)
     returns-2
-    leading-zeros-requires
-    shl-pack
-    exponent-of-requires
-    add-pack
+    (λ c κs. search needs)
+    (λ c. search needs)
+    (λ c κs. search needs)
+    (λ c. search needs)
     pack-requires
     returns-3)

@@ -13,15 +13,6 @@ written c = count-encodes (c .before .before .before .args .n) (c .before .leadi
 returns : tie.Need-returns
 returns c = count-zero (c .before .args .n) (c .if1 .taken)
 
-leading-zeros-requires : tie.Need-leading-zeros-requires
-leading-zeros-requires c κs = search needs
-
-shl-pack : tie.Need-shl-pack
-shl-pack c = search needs
-
-pack-requires : tie.Need-pack-requires
-pack-requires c κs = search needs
-
 cast-result : tie.Need-cast-result
 cast-result c = record { fits = written c .width }
 
@@ -36,9 +27,9 @@ u64-to-f32-spec =
     tie.close
     (tie.spec
     returns
-    leading-zeros-requires
-    shl-pack
-    pack-requires
+    (λ c κs. search needs)
+    (λ c. search needs)
+    (λ c κs. search needs)
     cast-result
     float-from-bits-result
     returns-2)

@@ -6,12 +6,6 @@ use Rattle.floats.specs.Fields.{exponentOf}
 use Rattle.floats.proofs.decode.exponent_of.Statement.{statement}
 use Rattle.floats.proofs.decode.exponent_of.Tie as tie
 
-exponent-field-of-requires : tie.Need-exponent-field-of-requires
-exponent-field-of-requires c κs = search needs
-
-sub-result : tie.Need-sub-result
-sub-result c = search needs
-
 returns : tie.Need-returns
 unfolding exponentOf
 returns c =
@@ -24,4 +18,4 @@ returns-2 c =
     ap (λ (x : ℕ). x - 1) (c .before .exponent-field-of .ensures)
 
 pub exponent-of-spec : {M : Type 1} → statement M
-exponent-of-spec = tie.close (tie.spec exponent-field-of-requires sub-result returns returns-2)
+exponent-of-spec = tie.close (tie.spec (λ c κs. search needs) (λ c. search needs) returns returns-2)

@@ -14,33 +14,18 @@ one s h = omega arith
 room : (e : ℕ) → e < 2 ^ 11 → e + 64 < 2 ^ 64
 room e h = omega arith
 
-significand-of-requires : tie.Need-significand-of-requires
-significand-of-requires c κs = search needs
-
 returns : tie.Need-returns
 returns c =
     normalised-zero (c .before .before .args .n) (sym (c .before .significand-of .ensures) ∙ c .if1 .taken)
-
-leading-zeros-requires : tie.Need-leading-zeros-requires
-leading-zeros-requires c κs = search needs
-
-exponent-of-requires : tie.Need-exponent-of-requires
-exponent-of-requires c κs = search needs
 
 sub-t6 : tie.Need-sub-t6
 sub-t6 c =
     let g = c .before .before .before in
     one (c .before .leading-zeros .result) (eleven-leading-zeros (g .significand-of .result) (c .before .leading-zeros .result) (subst (λ (x : ℕ). x < 2 ^ 53) (sym (g .significand-of .ensures)) (significand-lt (g .before .args .n))) (c .before .leading-zeros .ensures .1))
 
-shl-t7 : tie.Need-shl-t7
-shl-t7 c = search needs
-
 add-t8 : tie.Need-add-t8
 add-t8 c =
     record { fits = room (c .exponent-of .result) (subst (λ (x : ℕ). x < 2 ^ 11) (sym (c .exponent-of .ensures)) (exponent-lt (c .before .before .before .before .args .n))) }
-
-sub-t9 : tie.Need-sub-t9
-sub-t9 c = search needs
 
 returns-2 : tie.Need-returns-2
 returns-2 c =
@@ -51,12 +36,12 @@ pub normalised-spec : {M : Type 1} → statement M
 normalised-spec =
     tie.close
     (tie.spec
-    significand-of-requires
+    (λ c κs. search needs)
     returns
-    leading-zeros-requires
-    exponent-of-requires
+    (λ c κs. search needs)
+    (λ c κs. search needs)
     sub-t6
-    shl-t7
+    (λ c. search needs)
     add-t8
-    sub-t9
+    (λ c. search needs)
     returns-2)

@@ -5,9 +5,6 @@ use Rattle.floats.proofs.decode.Reading.{significand-zero, significand-
 use Rattle.floats.proofs.decode.significand_of.Statement.{statement}
 use Rattle.floats.proofs.decode.significand_of.Tie as tie
 
-exponent-field-of-requires : tie.Need-exponent-field-of-requires
-exponent-field-of-requires c κs = search needs
-
 returns : tie.Need-returns
 returns c =
     significand-zero (c .before .before .args .n) (sym (c .before .exponent-field-of .ensures) ∙ c .if1 .taken)
@@ -17,4 +14,4 @@ returns-2 c =
     significand-more (c .before .before .args .n) (λ e. c .if1 .left (c .before .exponent-field-of .ensures ∙ e))
 
 pub significand-of-spec : {M : Type 1} → statement M
-significand-of-spec = tie.close (tie.spec exponent-field-of-requires returns returns-2)
+significand-of-spec = tie.close (tie.spec (λ c κs. search needs) returns returns-2)

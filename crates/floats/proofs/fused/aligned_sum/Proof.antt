@@ -23,17 +23,11 @@ less l e = ltb→lt (X l) (Z l) (subst T (sym (sym (l .is-less .ensures) ∙ e))
 more : (l : tie.After-is-less) → l .is-less .result ≡ false → Z l ≤ X l
 more l e = nltb→le (X l) (Z l) (subst (λ (b : Bool). T (not b)) (sym (sym (l .is-less .ensures) ∙ e)) tt)
 
-shift-to-odd-requires : tie.Need-shift-to-odd-requires
-shift-to-odd-requires c κs = search needs
-
 add-requires : tie.Need-add-requires
 add-requires c κs =
     let J = c .before in
     let S = J .before in
     (upper-lt (S .args .xh) (S .args .xl) (S .pre .0 .under), upper-lt (J .shift-to-odd .result .hi) (J .shift-to-odd .result .lo) (shifted-lt (S .args .s) (S .args .t) (wide (J .shift-to-odd .result)) (S .args .d) (S .pre .0) (S .pre .1) (S .pre .2) (J .shift-to-odd .ensures)))
-
-round-wide-requires : tie.Need-round-wide-requires
-round-wide-requires c κs = search needs
 
 returns : tie.Need-returns
 returns c =
@@ -42,14 +36,8 @@ returns c =
     let S = J .before in
     sum-of-alike (S .args .s) (S .args .t) (wide (J .shift-to-odd .result)) (S .args .d) (S .pre .0) (S .pre .1) (S .pre .2) (J .shift-to-odd .ensures) (a .before .if1 .taken) (wide (a .add .result)) (c .round-wide .result) (a .add .ensures) (c .round-wide .ensures)
 
-is-less-requires : tie.Need-is-less-requires
-is-less-requires c κs = search needs
-
 subtract-requires : tie.Need-subtract-requires
 subtract-requires c κs = le-of-lt (less (c .before) (c .if2 .taken))
-
-round-wide-requires-2 : tie.Need-round-wide-requires-2
-round-wide-requires-2 c κs = search needs
 
 returns-2 : tie.Need-returns-2
 returns-2 c =
@@ -70,9 +58,6 @@ returns-3 c =
     let S = J .before in
     difference-cancels (S .args .s) (S .args .t) (wide (J .shift-to-odd .result)) (S .args .d) (S .pre .0) (S .pre .1) (S .pre .2) (J .shift-to-odd .ensures) (l .before .if1 .left) (more l (a .before .if2 .left)) (wide (a .subtract2 .result)) (a .subtract2 .ensures) (words-none (a .subtract2 .result .hi) (a .subtract2 .result .lo) (c .if3 .taken))
 
-round-wide-requires-3 : tie.Need-round-wide-requires-3
-round-wide-requires-3 c κs = search needs
-
 returns-4 : tie.Need-returns-4
 returns-4 c =
     let a = c .before .before .before in
@@ -85,15 +70,15 @@ pub aligned-sum-spec : {M : Type 1} → statement M
 aligned-sum-spec =
     tie.close
     (tie.spec
-    shift-to-odd-requires
+    (λ c κs. search needs)
     add-requires
-    round-wide-requires
+    (λ c κs. search needs)
     returns
-    is-less-requires
+    (λ c κs. search needs)
     subtract-requires
-    round-wide-requires-2
+    (λ c κs. search needs)
     returns-2
     subtract-requires-2
     returns-3
-    round-wide-requires-3
+    (λ c κs. search needs)
     returns-4)

@@ -13,15 +13,6 @@ use Rattle.floats.proofs.fused.fused_pattern.Tie as tie
 moved : (Y a b : ℕ) → a ≤ b → Operand Y a → Operand Y (b - (b - a))
 moved Y a b l o = subst (λ (k : ℕ). Operand Y k) (sym (sub-sub-cancel a b l)) o
 
-product-term-requires : tie.Need-product-term-requires
-product-term-requires c κs = search needs
-
-addend-term-requires : tie.Need-addend-term-requires
-addend-term-requires c κs = search needs
-
-sub-aligned-sum : tie.Need-sub-aligned-sum
-sub-aligned-sum c = search needs
-
 aligned-sum-requires : tie.Need-aligned-sum-requires
 aligned-sum-requires c κs =
     let d = c .before in
@@ -54,9 +45,9 @@ pub fused-pattern-spec : {M : Type 1} → statement M
 fused-pattern-spec =
     tie.close
     (tie.spec
-    product-term-requires
-    addend-term-requires
-    sub-aligned-sum
+    (λ c κs. search needs)
+    (λ c κs. search needs)
+    (λ c. search needs)
     aligned-sum-requires
     aligned-sum-requires-2
     returns

@@ -12,9 +12,6 @@ returns c = nan-is-none (c .before .args .v) (nan-of-differs (c .before .args .v
 float-to-bits-n : tie.Need-float-to-bits-n
 float-to-bits-n c = number-of-equal (c .before .args .v) (c .if1 .left)
 
-exponent-field-of-requires : tie.Need-exponent-field-of-requires
-exponent-field-of-requires c κs = search needs
-
 mul-other : tie.Need-mul-other
 mul-other c = record { fits = product-fits _ (c .exponent-field-of .result) (c .exponent-field-of .ensures) }
 
@@ -24,4 +21,4 @@ returns-2 c = pattern-test _ (c .exponent-field-of .result) (c .exponent-field-o
 
 pub is-unit-or-zero-spec : {M : Type 1} → statement M
 is-unit-or-zero-spec =
-    tie.close (tie.spec returns float-to-bits-n exponent-field-of-requires mul-other returns-2)
+    tie.close (tie.spec returns float-to-bits-n (λ c κs. search needs) mul-other returns-2)

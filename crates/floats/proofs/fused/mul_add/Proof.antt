@@ -21,17 +21,11 @@ y-fits s = subst T (sym (s .good .1 .0 .1)) tt
 unit : (v : Float) (r : Bool) → T (fits binary64 v) → r ≡ unitOrZero v → r ≡ true → Unit v
 unit v r F e t = unit-of-test v F (subst T (sym (sym e ∙ t)) tt)
 
-is-unit-or-zero-requires : tie.Need-is-unit-or-zero-requires
-is-unit-or-zero-requires c κs = search needs
-
 returns : tie.Need-returns
 returns c =
     let t = c .before in
     let s = t .before in
     second-unit binary64 (s .args .x) (s .args .y) (s .args .z) (x-fits s) (unit (s .args .y) _ (y-fits s) (t .is-unit-or-zero .ensures) (c .if1 .taken))
-
-is-unit-or-zero-requires-2 : tie.Need-is-unit-or-zero-requires-2
-is-unit-or-zero-requires-2 c κs = search needs
 
 returns-2 : tie.Need-returns-2
 returns-2 c =
@@ -39,19 +33,13 @@ returns-2 c =
     let s = t .before .before .before in
     first-unit binary64 (s .args .x) (s .args .y) (s .args .z) (unit (s .args .x) _ (x-fits s) (t .is-unit-or-zero2 .ensures) (c .if2 .taken)) (y-fits s)
 
-mul-add-rounded-requires : tie.Need-mul-add-rounded-requires
-mul-add-rounded-requires c κs = search needs
-
-returns-3 : tie.Need-returns-3
-returns-3 c = search needs
-
 pub mul-add-spec : {M : Type 1} → statement M
 mul-add-spec =
     tie.close
     (tie.spec
-    is-unit-or-zero-requires
+    (λ c κs. search needs)
     returns
-    is-unit-or-zero-requires-2
+    (λ c κs. search needs)
     returns-2
-    mul-add-rounded-requires
-    returns-3)
+    (λ c κs. search needs)
+    (λ c. search needs))

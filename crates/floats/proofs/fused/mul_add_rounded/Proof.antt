@@ -59,17 +59,11 @@ float-to-bits-b c = num-y c
 float-to-bits-c : tie.Need-float-to-bits-c
 float-to-bits-c c = num-z c
 
-exponent-field-of-requires : tie.Need-exponent-field-of-requires
-exponent-field-of-requires c κs = search needs
-
 returns-4 : tie.Need-returns-4
 returns-4 c =
     let a = c .before in
     let s = start (a .before) in
     fma-infinite-first binary64 (s .args .x) (s .args .y) (s .args .z) _ (infinite-at (s .args .x) (fit-x s) (num-x (a .before)) (sym (a .exponent-field-of .ensures) ∙ c .if4 .taken))
-
-exponent-field-of-requires-2 : tie.Need-exponent-field-of-requires-2
-exponent-field-of-requires-2 c κs = search needs
 
 returns-5 : tie.Need-returns-5
 returns-5 c =
@@ -78,9 +72,6 @@ returns-5 c =
     let s = start (a .before) in
     fma-infinite-second binary64 (s .args .x) (s .args .y) (s .args .z) _ _ _ _ (finite-at (s .args .x) (fit-x s) (λ e. b .before .if4 .left (a .exponent-field-of .ensures ∙ e)))
     (infinite-at (s .args .y) (fit-y s) (num-y (a .before)) (sym (b .exponent-field-of2 .ensures) ∙ c .if5 .taken))
-
-exponent-field-of-requires-3 : tie.Need-exponent-field-of-requires-3
-exponent-field-of-requires-3 c κs = search needs
 
 returns-6 : tie.Need-returns-6
 returns-6 c =
@@ -99,9 +90,6 @@ fused-pattern-requires c κs =
     let a = b .before .before in
     ((λ e. b .before .if4 .left (a .exponent-field-of .ensures ∙ e)), (λ e. d .before .if5 .left (b .exponent-field-of2 .ensures ∙ e)), (λ e. c .if6 .left (d .exponent-field-of3 .ensures ∙ e)))
 
-float-from-bits-result : tie.Need-float-from-bits-result
-float-from-bits-result c = search needs
-
 returns-7 : tie.Need-returns-7
 returns-7 c =
     let s = start (c .before .before .before .before .before .before .before) in
@@ -118,12 +106,12 @@ mul-add-rounded-spec =
     float-to-bits-a
     float-to-bits-b
     float-to-bits-c
-    exponent-field-of-requires
+    (λ c κs. search needs)
     returns-4
-    exponent-field-of-requires-2
+    (λ c κs. search needs)
     returns-5
-    exponent-field-of-requires-3
+    (λ c κs. search needs)
     returns-6
     fused-pattern-requires
-    float-from-bits-result
+    (λ c. search needs)
     returns-7)

@@ -6,9 +6,6 @@ use Rattle.floats.proofs.wide.Shifts.{words-some}
 use Rattle.floats.proofs.fused.round_wide.Statement.{statement}
 use Rattle.floats.proofs.fused.round_wide.Tie as tie
 
-sign-bit-requires : tie.Need-sign-bit-requires
-sign-bit-requires c κs = search needs
-
 returns : tie.Need-returns
 returns c =
     let s = c .before .before in
@@ -16,15 +13,6 @@ returns c =
 
 leading-word-requires : tie.Need-leading-word-requires
 leading-word-requires c κs = words-some (c .before .before .args .hi) (c .before .before .args .lo) (c .if1 .left)
-
-add-pack : tie.Need-add-pack
-add-pack c = search needs
-
-add-pack-2 : tie.Need-add-pack-2
-add-pack-2 c = search needs
-
-pack-requires : tie.Need-pack-requires
-pack-requires c κs = search needs
 
 returns-2 : tie.Need-returns-2
 returns-2 c =
@@ -37,10 +25,10 @@ pub round-wide-spec : {M : Type 1} → statement M
 round-wide-spec =
     tie.close
     (tie.spec
-    sign-bit-requires
+    (λ c κs. search needs)
     returns
     leading-word-requires
-    add-pack
-    add-pack-2
-    pack-requires
+    (λ c. search needs)
+    (λ c. search needs)
+    (λ c κs. search needs)
     returns-2)

@@ -23,9 +23,6 @@ float-from-bits-result c =
     let n = c .before .args .n in
     number n (subst (λ (x : ℕ). x ≤ 0x7ff0_0000_0000_0000) (and-mask n 63) (c .if1 .taken))
 
-returns : tie.Need-returns
-returns c = search needs
-
 returns-2 : tie.Need-returns-2
 returns-2 c =
     let n = c .before .args .n in
@@ -33,4 +30,4 @@ returns-2 c =
     ∙ sym (nan-of-test (ofBits binary64 n) (sym (nanBits-is binary64 n) ∙ not-number n (subst (λ (x : ℕ). 0x7ff0_0000_0000_0000 < x) (and-mask n 63) (c .if1 .left))))
 
 pub f64-from-bits-spec : {M : Type 1} → statement M
-f64-from-bits-spec = tie.close (tie.spec float-from-bits-result returns returns-2)
+f64-from-bits-spec = tie.close (tie.spec float-from-bits-result (λ c. search needs) returns-2)

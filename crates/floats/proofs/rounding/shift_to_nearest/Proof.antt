@@ -10,15 +10,6 @@ use Rattle.floats.proofs.rounding.shift_to_nearest.Tie as tie
 returns : tie.Need-returns
 returns c = sym (nearest-far-below (c .before .args .m) (c .before .args .d) (c .before .fits .m .fits) (c .if1 .taken))
 
-sub-quotient : tie.Need-sub-quotient
-sub-quotient c = search needs
-
-shr-quotient : tie.Need-shr-quotient
-shr-quotient c = search needs
-
-shl-rest : tie.Need-shl-rest
-shl-rest c = search needs
-
 add-result : tie.Need-add-result
 add-result c =
     let s = c .before .before .before in
@@ -52,9 +43,9 @@ shift-to-nearest-spec =
     tie.close
     (tie.spec
     returns
-    sub-quotient
-    shr-quotient
-    shl-rest
+    (λ c. search needs)
+    (λ c. search needs)
+    (λ c. search needs)
     add-result
     add-result-2
     returns-2

@@ -7,29 +7,8 @@ use Rattle.floats.proofs.wide.leading_word.Tie as tie
 leading-zeros-requires : tie.Need-leading-zeros-requires
 leading-zeros-requires c κs = low-pos (c .before .args .hi) (c .before .args .lo) (c .before .pre) (c .if1 .taken)
 
-shl-t9 : tie.Need-shl-t9
-shl-t9 c = search needs
-
-add-t10 : tie.Need-add-t10
-add-t10 c = search needs
-
 leading-zeros-requires-2 : tie.Need-leading-zeros-requires-2
 leading-zeros-requires-2 c κs = high-pos (c .before .args .hi) (c .if1 .left)
-
-shl-word : tie.Need-shl-word
-shl-word c = search needs
-
-sub-word : tie.Need-sub-word
-sub-word c = search needs
-
-shr-word : tie.Need-shr-word
-shr-word c = search needs
-
-shl-with-sticky : tie.Need-shl-with-sticky
-shl-with-sticky c = search needs
-
-with-sticky-requires : tie.Need-with-sticky-requires
-with-sticky-requires c κs = search needs
 
 returns : tie.Need-returns
 returns c =
@@ -48,13 +27,13 @@ leading-word-spec =
     tie.close
     (tie.spec
     leading-zeros-requires
-    shl-t9
-    add-t10
+    (λ c. search needs)
+    (λ c. search needs)
     leading-zeros-requires-2
-    shl-word
-    sub-word
-    shr-word
-    shl-with-sticky
-    with-sticky-requires
+    (λ c. search needs)
+    (λ c. search needs)
+    (λ c. search needs)
+    (λ c. search needs)
+    (λ c κs. search needs)
     returns
     returns-2)

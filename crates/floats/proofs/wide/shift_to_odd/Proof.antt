@@ -5,21 +5,6 @@ use Rattle.floats.proofs.wide.Shifts.{shift-word-to-odd, shift-all-to-o
 use Rattle.floats.proofs.wide.shift_to_odd.Statement.{statement}
 use Rattle.floats.proofs.wide.shift_to_odd.Tie as tie
 
-shift-within-word-requires : tie.Need-shift-within-word-requires
-shift-within-word-requires c κs = search needs
-
-with-sticky-requires : tie.Need-with-sticky-requires
-with-sticky-requires c κs = search needs
-
-shift-within-word-requires-2 : tie.Need-shift-within-word-requires-2
-shift-within-word-requires-2 c κs = search needs
-
-with-sticky-requires-2 : tie.Need-with-sticky-requires-2
-with-sticky-requires-2 c κs = search needs
-
-returns : tie.Need-returns
-returns c = search needs
-
 returns-2 : tie.Need-returns-2
 returns-2 c =
     let s = c .before .before .before .before in
@@ -34,10 +19,10 @@ pub shift-to-odd-spec : {M : Type 1} → statement M
 shift-to-odd-spec =
     tie.close
     (tie.spec
-    shift-within-word-requires
-    with-sticky-requires
-    shift-within-word-requires-2
-    with-sticky-requires-2
-    returns
+    (λ c κs. search needs)
+    (λ c κs. search needs)
+    (λ c κs. search needs)
+    (λ c κs. search needs)
+    (λ c. search needs)
     returns-2
     returns-3)

@@ -15,27 +15,6 @@ returns c =
     let w = words (c .before .args .hi) (c .before .args .lo) in
     inl (ap (λ (x : ℕ). w * 2 ^ x) (c .if1 .taken) ∙ mul-one w)
 
-sub-low : tie.Need-sub-low
-sub-low c = search needs
-
-shl-low : tie.Need-shl-low
-shl-low c = search needs
-
-shr-low : tie.Need-shr-low
-shr-low c = search needs
-
-sub-with-sticky : tie.Need-sub-with-sticky
-sub-with-sticky c = search needs
-
-shl-with-sticky : tie.Need-shl-with-sticky
-shl-with-sticky c = search needs
-
-with-sticky-requires : tie.Need-with-sticky-requires
-with-sticky-requires c κs = search needs
-
-shr-t8 : tie.Need-shr-t8
-shr-t8 c = search needs
-
 returns-2 : tie.Need-returns-2
 returns-2 c =
     let s = c .before .before in
@@ -47,11 +26,11 @@ shift-within-word-spec =
     tie.close
     (tie.spec
     returns
-    sub-low
-    shl-low
-    shr-low
-    sub-with-sticky
-    shl-with-sticky
-    with-sticky-requires
-    shr-t8
+    (λ c. search needs)
+    (λ c. search needs)
+    (λ c. search needs)
+    (λ c. search needs)
+    (λ c. search needs)
+    (λ c κs. search needs)
+    (λ c. search needs)
     returns-2)

@@ -27,8 +27,5 @@ float-to-bits-result c = number-of-equal (c .before .args .x) (c .if1 .left)
 cast-result : tie.Need-cast-result
 cast-result c = record { fits = lt-of-lt-of-le (toBits-lt binary32 (c .before .args .x) (held (c .before))) (lit≤ tt) }
 
-returns-2 : tie.Need-returns-2
-returns-2 c = search needs
-
 pub f32-to-bits-spec : {M : Type 1} → statement M
-f32-to-bits-spec = tie.close (tie.spec returns float-to-bits-result cast-result returns-2)
+f32-to-bits-spec = tie.close (tie.spec returns float-to-bits-result cast-result (λ c. search needs))

@@ -4,7 +4,7 @@ use native.Mathlib.Omega.{arith}
 use lib.Seq.{length-take-le}
 use denote.Ref.{now}
 use borrow.Author.Needs.{needs}
-use Rattle.plan_answer.proofs.Saying.{too-long-read, input-read}
+use Rattle.plan_answer.proofs.Replies.{too-long-read, input-read}
 use Rattle.plan_answer.proofs.input.answer_read.Statement.{statement}
 use Rattle.plan_answer.proofs.input.answer_read.Tie as tie
 

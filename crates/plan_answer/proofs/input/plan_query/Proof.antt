@@ -6,7 +6,7 @@ use lib.Seq.{length-take-le}
 use denote.Ref.{now}
 use borrow.Author.Needs.{needs}
 use Rattle.plan_text.proofs.TapeLines.{from-here}
-use Rattle.plan_answer.proofs.Saying.{tape-said, tape-within, refusal-said}
+use Rattle.plan_answer.proofs.Replies.{tape-reply, tape-within, refusal-reply}
 use Rattle.plan_answer.proofs.input.plan_query.Statement.{statement}
 use Rattle.plan_answer.proofs.input.plan_query.Tie as tie
 
@@ -19,7 +19,7 @@ planned c =
     let a = at-plan .before .before .before .before .before .before .before .before .before .before .before .before .args in
     let call = rw (from-here (now (a .input)) (a .query .sheet)) at (at-plan .plan .ensures) in
     let is = c .before .length .given .1 in (
-      tape-said (now (a .input)) (a .query) (now (a .hidden)) (now (a .tape)) (now (a .counts)) (now (a .marks)) _ call is,
+      tape-reply (now (a .input)) (a .query) (now (a .hidden)) (now (a .tape)) (now (a .counts)) (now (a .marks)) _ call is,
       tape-within (now (a .input)) (a .query) (now (a .hidden)) (now (a .tape)) (now (a .counts)) (now (a .marks)) _ call is,
     )
 
@@ -28,7 +28,7 @@ refused c =
     let at-plan = c .before .before .before .before .before .before .before .before .before in
     let a = at-plan .before .before .before .before .before .before .before .before .before .before .before .before .args in
     let call = rw (from-here (now (a .input)) (a .query .sheet)) at (at-plan .plan .ensures) in
-    (refusal-said (now (a .input)) (a .query) (now (a .hidden)) (now (a .tape)) (now (a .counts)) (now (a .marks)) _ call (c .before .number .given .1), omega arith)
+    (refusal-reply (now (a .input)) (a .query) (now (a .hidden)) (now (a .tape)) (now (a .counts)) (now (a .marks)) _ call (c .before .number .given .1), omega arith)
 
 pub plan-query-spec : {M : Type 1} → statement M
 plan-query-spec =

@@ -27,11 +27,8 @@ prefix-length c = part-length (c .before .before .before .put-part .ensures)
 goes-further : tie.Need-loop-less Inv-loop μ-loop
 goes-further c = omega (arith, c .before .before .before .before .put-part .ensures .goes)
 
-loop-again : tie.Need-loop-again Inv-loop μ-loop
-loop-again c = search needs
-
 pub print-answer-spec : {M : Type 1} → statement M
 print-answer-spec =
     tie.close
     (tie.spec Inv-loop μ-loop (λ c κs. search needs) (λ c. refl) part-requires prefix prefix-length (λ c κs. search needs)
-    goes-further loop-again (λ c. search needs) (λ c. tt))
+    goes-further (λ c. search needs) (λ c. search needs) (λ c. tt))

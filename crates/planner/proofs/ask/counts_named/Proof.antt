@@ -1,7 +1,7 @@
 -- `planner::ask::counts_named` meets its contract. Assumes nothing.
 use mathlib.Core.Path.{refl}
 use native.Mathlib.Omega.{arith}
-use Rattle.rules.specs.Scratch.{countsNamed}
+use Rattle.plan_rules.specs.Scratch.{countsNamed}
 use Rattle.planner.proofs.Scratch.{size-fits}
 use Rattle.planner.proofs.ask.counts_named.Statement.{statement}
 use Rattle.planner.proofs.ask.counts_named.Tie as tie

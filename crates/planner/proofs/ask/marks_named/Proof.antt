@@ -1,7 +1,7 @@
 -- `planner::ask::marks_named` meets its contract. Assumes nothing.
 use mathlib.Core.Path.{refl}
 use native.Mathlib.Omega.{arith}
-use Rattle.rules.specs.Scratch.{marksNamed}
+use Rattle.plan_rules.specs.Scratch.{marksNamed}
 use Rattle.planner.proofs.Scratch.{size-fits}
 use borrow.Author.Needs.{needs}
 use Rattle.planner.proofs.ask.marks_named.Statement.{statement}

@@ -1,7 +1,7 @@
 -- `planner::ask::zoom_ok` meets its contract. Assumes nothing.
 use lib.Ieee.{ofBits, ofFields, odd}
 use borrow.Author.Tests.{not-true, not-false}
-use Rattle.rules.specs.Outcome.{zoomOk}
+use Rattle.plan_rules.specs.Outcome.{zoomOk}
 use borrow.Author.Needs.{needs}
 use Rattle.planner.proofs.ask.zoom_ok.Statement.{statement}
 use Rattle.planner.proofs.ask.zoom_ok.Tie as tie

@@ -1,7 +1,7 @@
 -- `planner::plan` meets its contract: the sheet's own check decides questions 1 to 7, and `plan_sound` the others.
 -- Assumes nothing.
 use mathlib.Core.Path.{sym, _∙_}
-use Rattle.rules.proofs.OutcomeTheorem.{sheet-refused, sheet-sound}
+use Rattle.plan_rules.proofs.OutcomeTheorem.{sheet-refused, sheet-sound}
 use borrow.Author.Needs.{needs}
 use Rattle.planner.proofs.entry.plan.Statement.{statement}
 use Rattle.planner.proofs.entry.plan.Tie as tie

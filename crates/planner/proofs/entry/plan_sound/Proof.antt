@@ -4,7 +4,7 @@ use mathlib.Core.Path.{sym, _∙_}
 use native.Mathlib.Omega.{arith}
 use lib.Seq.{length-take-le}
 use borrow.Author.Tests.{not-true, not-false}
-use Rattle.rules.proofs.OutcomeTheorem.{view-refused, zoom-refused, depth-refused}
+use Rattle.plan_rules.proofs.OutcomeTheorem.{view-refused, zoom-refused, depth-refused}
 use Rattle.planner.proofs.Scratch.{counts-lent, marks-lent, scratch-refused, scratch-lent}
 use Rattle.planner.proofs.Delivered.{sweep-delivered}
 use borrow.Author.Needs.{needs}

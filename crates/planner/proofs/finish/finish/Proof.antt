@@ -1,7 +1,7 @@
 -- `planner::finish::finish` meets its contract: the tape's end, totals included, decides.
 -- Assumes nothing.
 use mathlib.Core.Path.{ap, _∙_}
-use Rattle.rules.specs.World.{world}
+use Rattle.plan_rules.specs.World.{world}
 use Rattle.planner.specs.Answered.{answered}
 use Rattle.planner.proofs.Answers.{tape-fits, tape-exceeds}
 use borrow.Author.Needs.{needs}

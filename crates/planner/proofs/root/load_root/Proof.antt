@@ -6,12 +6,12 @@ use borrow.Author.Tests.{not-true, not-false}
 use Rattle.geometry.specs.declared.bbox.WorldBBox.{WorldBBox}
 use Rattle.geometry.specs.Bbox.{overlaps}
 use Rattle.records.specs.declared.PreparedCell.{PreparedCell}
-use Rattle.layout.specs.Sheet.{cells, cellRecordAt}
-use Rattle.layout.specs.Lookup.{item-read}
-use Rattle.rules.specs.World.{world}
-use Rattle.rules.specs.Push.{addLoad}
-use Rattle.rules.specs.Tape.{noTag, onTape}
-use Rattle.rules.proofs.Paths.Plans.{root-missing, root-unboxed, root-outside, root-loaded}
+use Rattle.abstract_sheet.specs.Sheet.{cells, cellRecordAt}
+use Rattle.abstract_sheet.specs.Lookup.{item-read}
+use Rattle.plan_rules.specs.World.{world}
+use Rattle.plan_rules.specs.Push.{addLoad}
+use Rattle.plan_rules.specs.Tape.{noTag, onTape}
+use Rattle.plan_rules.proofs.Paths.Plans.{root-missing, root-unboxed, root-outside, root-loaded}
 use borrow.Author.Needs.{needs}
 use Rattle.planner.proofs.root.load_root.Statement.{statement}
 use Rattle.planner.proofs.root.load_root.Tie as tie

@@ -5,12 +5,12 @@ use Prim.Native.Nat.{ℕ}
 use native.Mathlib.Omega.{arith}
 use denote.Ref.{now}
 use Rattle.geometry.specs.declared.placement.Placement.{Placement}
-use Rattle.layout.specs.Sheet.{sheetOf}
-use Rattle.rules.specs.World.{queryOf, world}
-use Rattle.rules.specs.Visit.{visitCell}
-use Rattle.rules.specs.Plan.{visitRoot}
-use Rattle.rules.specs.Tape.{noTag, onTape}
-use Rattle.rules.proofs.Paths.Plans.{root-visited}
+use Rattle.abstract_sheet.specs.Sheet.{sheetOf}
+use Rattle.plan_rules.specs.World.{queryOf, world}
+use Rattle.plan_rules.specs.Visit.{visitCell}
+use Rattle.plan_rules.specs.Plan.{visitRoot}
+use Rattle.plan_rules.specs.Tape.{noTag, onTape}
+use Rattle.plan_rules.proofs.Paths.Plans.{root-visited}
 use borrow.Author.Needs.{needs}
 use Rattle.planner.proofs.root.visit_root.Statement.{statement}
 use Rattle.planner.proofs.root.visit_root.Tie as tie

@@ -1,6 +1,6 @@
 -- `planner::start::empty_plan` meets its contract. Assumes nothing.
 use mathlib.Core.Path.{refl}
-use Rattle.rules.specs.Event.{emptyPlan}
+use Rattle.plan_rules.specs.Event.{emptyPlan}
 use Rattle.planner.proofs.start.empty_plan.Statement.{statement}
 use Rattle.planner.proofs.start.empty_plan.Tie as tie
 

@@ -1,8 +1,8 @@
 -- `pushes::count_culled_reference` meets its contract: one total grows, and nothing is written.
 -- Assumes nothing.
-use Rattle.rules.specs.Event.{after, _⊞_}
-use Rattle.rules.specs.Push.{say}
-use Rattle.rules.specs.Tape.{putRecord, onTape}
+use Rattle.plan_rules.specs.Event.{after, _⊞_}
+use Rattle.plan_rules.specs.Push.{say}
+use Rattle.plan_rules.specs.Tape.{putRecord, onTape}
 use borrow.Author.Needs.{needs}
 use Rattle.pushes.proofs.events.count_culled_reference.Statement.{statement}
 use Rattle.pushes.proofs.events.count_culled_reference.Tie as tie

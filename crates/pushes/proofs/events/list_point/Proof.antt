@@ -1,8 +1,8 @@
 -- `pushes::list_point` meets its contract: its record is put on the tape, and its totals grow.
 -- Assumes nothing.
-use Rattle.rules.specs.Event.{after, _⊞_}
-use Rattle.rules.specs.Push.{say}
-use Rattle.rules.specs.Tape.{onTape}
+use Rattle.plan_rules.specs.Event.{after, _⊞_}
+use Rattle.plan_rules.specs.Push.{say}
+use Rattle.plan_rules.specs.Tape.{onTape}
 use borrow.Author.Needs.{needs}
 use Rattle.pushes.proofs.events.list_point.Statement.{statement}
 use Rattle.pushes.proofs.events.list_point.Tie as tie

@@ -11,12 +11,12 @@ use Rattle.geometry.specs.declared.bbox.WorldBBox.{WorldBBox}
 use Rattle.geometry.specs.declared.screen.ScreenSize.{ScreenSize}
 use Rattle.geometry.specs.Bbox.{transformBbox, overlaps}
 use Rattle.geometry.specs.Screen.{screenSize, isSubpixel, isDenseBatch}
-use Rattle.layout.specs.Sheet.{sheetOf, geometries}
-use Rattle.layout.specs.Lookup.{item-read}
-use Rattle.rules.specs.World.{Query, queryOf, hides, detailBudgetExhausted, World, world}
-use Rattle.rules.specs.Push.{noLabel, addLoad}
-use Rattle.rules.specs.Tape.{noTag, onTape}
-use Rattle.rules.proofs.Paths.Pushes.{geometry-missing, geometry-hidden, geometry-culled, geometry-skipped, geometry-dense, geometry-exhausted, geometry-listed}
+use Rattle.abstract_sheet.specs.Sheet.{sheetOf, geometries}
+use Rattle.abstract_sheet.specs.Lookup.{item-read}
+use Rattle.plan_rules.specs.World.{Query, queryOf, hides, detailBudgetExhausted, World, world}
+use Rattle.plan_rules.specs.Push.{noLabel, addLoad}
+use Rattle.plan_rules.specs.Tape.{noTag, onTape}
+use Rattle.plan_rules.proofs.Paths.Pushes.{geometry-missing, geometry-hidden, geometry-culled, geometry-skipped, geometry-dense, geometry-exhausted, geometry-listed}
 use borrow.Author.Needs.{needs}
 use Rattle.pushes.proofs.items.push_geometry.Statement.{statement}
 use Rattle.pushes.proofs.items.push_geometry.Tie as tie

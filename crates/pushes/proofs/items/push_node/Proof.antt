@@ -3,11 +3,11 @@
 use mathlib.Core.Path.{sym, ap, _∙_}
 use denote.Ref.{now}
 use Rattle.records.specs.declared.PreparedNode.{PreparedNode}
-use Rattle.layout.specs.Sheet.{nodeRecordAt, nodes}
-use Rattle.layout.specs.Lookup.{item-read}
-use Rattle.rules.specs.World.{queryOf, hides}
-use Rattle.rules.specs.Tape.{noTag, onTape}
-use Rattle.rules.proofs.Paths.Pushes.{node-missing, node-hidden, node-shown}
+use Rattle.abstract_sheet.specs.Sheet.{nodeRecordAt, nodes}
+use Rattle.abstract_sheet.specs.Lookup.{item-read}
+use Rattle.plan_rules.specs.World.{queryOf, hides}
+use Rattle.plan_rules.specs.Tape.{noTag, onTape}
+use Rattle.plan_rules.proofs.Paths.Pushes.{node-missing, node-hidden, node-shown}
 use borrow.Author.Needs.{needs}
 use Rattle.pushes.proofs.items.push_node.Statement.{statement}
 use Rattle.pushes.proofs.items.push_node.Tie as tie

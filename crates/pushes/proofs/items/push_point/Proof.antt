@@ -10,12 +10,12 @@ use Rattle.geometry.specs.declared.placement.DVec2.{DVec2}
 use Rattle.geometry.specs.Placement.{transformPoint2}
 use Rattle.geometry.specs.Bbox.{pointInBbox}
 use Rattle.records.specs.declared.PreparedNode.{PreparedNode}
-use Rattle.layout.specs.Sheet.{NodeRecord, nodeRecordAt}
-use Rattle.rules.specs.Event.{point}
-use Rattle.rules.specs.World.{queryOf, detailBudgetExhausted, world, go}
-use Rattle.rules.specs.Push.{say}
-use Rattle.rules.specs.Tape.{noTag, onTape}
-use Rattle.rules.proofs.Paths.Pushes.{point-outside, point-exhausted, point-listed}
+use Rattle.abstract_sheet.specs.Sheet.{NodeRecord, nodeRecordAt}
+use Rattle.plan_rules.specs.Event.{point}
+use Rattle.plan_rules.specs.World.{queryOf, detailBudgetExhausted, world, go}
+use Rattle.plan_rules.specs.Push.{say}
+use Rattle.plan_rules.specs.Tape.{noTag, onTape}
+use Rattle.plan_rules.proofs.Paths.Pushes.{point-outside, point-exhausted, point-listed}
 use borrow.Author.Needs.{needs}
 use Rattle.pushes.proofs.items.push_point.Statement.{statement}
 use Rattle.pushes.proofs.items.push_point.Tie as tie

@@ -8,11 +8,11 @@ use lib.ListN.{length}
 use borrow.Author.Tests.{not-true, not-false}
 use mathlib.Core.Bool.{Bool}
 use Rattle.records.specs.declared.PreparedNode.{PreparedNode}
-use Rattle.layout.specs.Sheet.{sheetOf, nodeRecordAt}
-use Rattle.rules.specs.World.{queryOf, world, flow, each}
-use Rattle.rules.specs.Push.{pushPoint}
-use Rattle.rules.specs.Tape.{noTag, onTape}
-use Rattle.rules.proofs.Paths.Loops.{each-go, each-halt, each-done}
+use Rattle.abstract_sheet.specs.Sheet.{sheetOf, nodeRecordAt}
+use Rattle.plan_rules.specs.World.{queryOf, world, flow, each}
+use Rattle.plan_rules.specs.Push.{pushPoint}
+use Rattle.plan_rules.specs.Tape.{noTag, onTape}
+use Rattle.plan_rules.proofs.Paths.Loops.{each-go, each-halt, each-done}
 use Rattle.pushes.proofs.Start.{each-from}
 use borrow.Author.Needs.{needs}
 use Rattle.pushes.proofs.items.push_points.Statement.{statement}

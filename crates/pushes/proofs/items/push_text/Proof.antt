@@ -8,13 +8,13 @@ use borrow.Author.Tests.{not-true, not-false}
 use Rattle.geometry.specs.declared.placement.DVec2.{DVec2}
 use Rattle.geometry.specs.Placement.{transformPoint2}
 use Rattle.geometry.specs.Bbox.{pointInBbox}
-use Rattle.layout.specs.Sheet.{sheetOf, texts}
-use Rattle.layout.specs.Lookup.{item-read}
-use Rattle.rules.specs.Event.{text}
-use Rattle.rules.specs.World.{queryOf, hides, world}
-use Rattle.rules.specs.Push.{say}
-use Rattle.rules.specs.Tape.{noTag, onTape}
-use Rattle.rules.proofs.Paths.Pushes.{text-missing, text-hidden, text-outside, text-listed}
+use Rattle.abstract_sheet.specs.Sheet.{sheetOf, texts}
+use Rattle.abstract_sheet.specs.Lookup.{item-read}
+use Rattle.plan_rules.specs.Event.{text}
+use Rattle.plan_rules.specs.World.{queryOf, hides, world}
+use Rattle.plan_rules.specs.Push.{say}
+use Rattle.plan_rules.specs.Tape.{noTag, onTape}
+use Rattle.plan_rules.proofs.Paths.Pushes.{text-missing, text-hidden, text-outside, text-listed}
 use borrow.Author.Needs.{needs}
 use Rattle.pushes.proofs.items.push_text.Statement.{statement}
 use Rattle.pushes.proofs.items.push_text.Tie as tie

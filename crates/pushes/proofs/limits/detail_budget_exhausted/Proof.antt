@@ -1,7 +1,7 @@
 -- `pushes::detail_budget_exhausted` meets its contract.
 -- Assumes nothing.
 use borrow.Author.Tests.{le-leb, lt-leb}
-use Rattle.rules.specs.World.{detailBudgetExhausted}
+use Rattle.plan_rules.specs.World.{detailBudgetExhausted}
 use Rattle.pushes.proofs.limits.detail_budget_exhausted.Statement.{statement}
 use Rattle.pushes.proofs.limits.detail_budget_exhausted.Tie as tie
 

@@ -5,7 +5,7 @@ use mathlib.Core.List.{List}
 use Prim.Native.Nat.{ℕ, _+_, _*_, _-_, _≤_}
 use lib.ListN.{length, drop}
 use native.Mathlib.Omega.{arith}
-use Rattle.rules.specs.World.{contains, hides}
+use Rattle.plan_rules.specs.World.{contains, hides}
 use Rattle.pushes.proofs.Hidden.{contains-here, contains-later, contains-no-more}
 use borrow.Author.Needs.{needs}
 use Rattle.pushes.proofs.limits.is_hidden.Statement.{statement}

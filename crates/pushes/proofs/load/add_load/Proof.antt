@@ -1,10 +1,10 @@
 -- `pushes::add_load` meets its contract: a proxy is listed, or dropped.
 -- Assumes nothing.
 use mathlib.Core.Path.{_≡_, refl, sym, ap, _∙_}
-use Rattle.rules.specs.Event.{after, _⊞_}
-use Rattle.rules.specs.Push.{say}
-use Rattle.rules.specs.Tape.{putRecord, noTag, onTape}
-use Rattle.rules.proofs.Paths.Pushes.{load-listed, load-dropped}
+use Rattle.plan_rules.specs.Event.{after, _⊞_}
+use Rattle.plan_rules.specs.Push.{say}
+use Rattle.plan_rules.specs.Tape.{putRecord, noTag, onTape}
+use Rattle.plan_rules.proofs.Paths.Pushes.{load-listed, load-dropped}
 use borrow.Author.Needs.{needs}
 use Rattle.pushes.proofs.load.add_load.Statement.{statement}
 use Rattle.pushes.proofs.load.add_load.Tie as tie

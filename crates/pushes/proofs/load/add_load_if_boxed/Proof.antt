@@ -4,9 +4,9 @@ use mathlib.Core.Path.{_≡_, refl, sym, ap, _∙_}
 use denote.Ref.{now}
 use Rattle.geometry.specs.declared.bbox.WorldBBox.{WorldBBox}
 use Rattle.geometry.specs.declared.bbox.Bounds.{Bounds}
-use Rattle.rules.specs.World.{world}
-use Rattle.rules.specs.Push.{addLoad, addLoadIfBoxed}
-use Rattle.rules.specs.Tape.{noTag, onTape}
+use Rattle.plan_rules.specs.World.{world}
+use Rattle.plan_rules.specs.Push.{addLoad, addLoadIfBoxed}
+use Rattle.plan_rules.specs.Tape.{noTag, onTape}
 use borrow.Author.Needs.{needs}
 use Rattle.pushes.proofs.load.add_load_if_boxed.Statement.{statement}
 use Rattle.pushes.proofs.load.add_load_if_boxed.Tie as tie

@@ -4,12 +4,9 @@ use borrow.Author.Needs.{needs}
 use Rattle.records.proofs.cells.cell_geometry_at.Statement.{statement}
 use Rattle.records.proofs.cells.cell_geometry_at.Tie as tie
 
-cell-number-at-requires : tie.Need-cell-number-at-requires
-cell-number-at-requires c κs = search needs
-
 returns : tie.Need-returns
 unfolding cellGeometryAt
 returns c = c .cell-number-at .ensures
 
 pub cell-geometry-at-spec : {M : Type 1} → statement M
-cell-geometry-at-spec = tie.close (tie.spec cell-number-at-requires returns)
+cell-geometry-at-spec = tie.close (tie.spec (λ c κs. search needs) returns)

@@ -7,18 +7,6 @@ use borrow.Author.Needs.{needs}
 use Rattle.records.proofs.cells.cell_number_at.Statement.{statement}
 use Rattle.records.proofs.cells.cell_number_at.Tie as tie
 
-from-requires : tie.Need-from-requires
-from-requires c κs = search needs
-
-mul-u32-at : tie.Need-mul-u32-at
-mul-u32-at c = search needs
-
-add-u32-at : tie.Need-add-u32-at
-add-u32-at c = search needs
-
-u32-at-requires : tie.Need-u32-at-requires
-u32-at-requires c κs = search needs
-
 returns : tie.Need-returns
 unfolding cellNumberAt
 returns c =
@@ -28,4 +16,4 @@ returns c =
 
 pub cell-number-at-spec : {M : Type 1} → statement M
 cell-number-at-spec =
-    tie.close (tie.spec from-requires mul-u32-at add-u32-at u32-at-requires returns)
+    tie.close (tie.spec (λ c κs. search needs) (λ c. search needs) (λ c. search needs) (λ c κs. search needs) returns)

@@ -7,15 +7,6 @@ use borrow.Author.Needs.{needs}
 use Rattle.records.proofs.cells.cell_reference_at.Statement.{statement}
 use Rattle.records.proofs.cells.cell_reference_at.Tie as tie
 
-references-from-requires : tie.Need-references-from-requires
-references-from-requires c κs = search needs
-
-add-cell-number-at : tie.Need-add-cell-number-at
-add-cell-number-at c = search needs
-
-cell-number-at-requires : tie.Need-cell-number-at-requires
-cell-number-at-requires c κs = search needs
-
 returns : tie.Need-returns
 unfolding cellReferenceAt
 returns c =
@@ -25,4 +16,4 @@ returns c =
 pub cell-reference-at-spec : {M : Type 1} → statement M
 cell-reference-at-spec =
     tie.close
-    (tie.spec references-from-requires add-cell-number-at cell-number-at-requires returns)
+    (tie.spec (λ c κs. search needs) (λ c. search needs) (λ c κs. search needs) returns)

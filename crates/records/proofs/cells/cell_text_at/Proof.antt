@@ -7,15 +7,6 @@ use borrow.Author.Needs.{needs}
 use Rattle.records.proofs.cells.cell_text_at.Statement.{statement}
 use Rattle.records.proofs.cells.cell_text_at.Tie as tie
 
-texts-from-requires : tie.Need-texts-from-requires
-texts-from-requires c κs = search needs
-
-add-cell-number-at : tie.Need-add-cell-number-at
-add-cell-number-at c = search needs
-
-cell-number-at-requires : tie.Need-cell-number-at-requires
-cell-number-at-requires c κs = search needs
-
 returns : tie.Need-returns
 unfolding cellTextAt
 returns c =
@@ -24,4 +15,4 @@ returns c =
 
 pub cell-text-at-spec : {M : Type 1} → statement M
 cell-text-at-spec =
-    tie.close (tie.spec texts-from-requires add-cell-number-at cell-number-at-requires returns)
+    tie.close (tie.spec (λ c κs. search needs) (λ c. search needs) (λ c κs. search needs) returns)

@@ -9,21 +9,6 @@ use borrow.Author.Needs.{needs}
 use Rattle.records.proofs.cells.references_from.Statement.{statement}
 use Rattle.records.proofs.cells.references_from.Tie as tie
 
-nodes-from-requires : tie.Need-nodes-from-requires
-nodes-from-requires c κs = search needs
-
-from-requires : tie.Need-from-requires
-from-requires c κs = search needs
-
-u16-at-requires : tie.Need-u16-at-requires
-u16-at-requires c κs = search needs
-
-cast-result : tie.Need-cast-result
-cast-result c = search needs
-
-add-result : tie.Need-add-result
-add-result c = search needs
-
 returns : tie.Need-returns
 unfolding referencesFrom
 returns c =
@@ -34,4 +19,4 @@ returns c =
 pub references-from-spec : {M : Type 1} → statement M
 references-from-spec =
     tie.close
-    (tie.spec nodes-from-requires from-requires u16-at-requires cast-result add-result returns)
+    (tie.spec (λ c κs. search needs) (λ c κs. search needs) (λ c κs. search needs) (λ c. search needs) (λ c. search needs) returns)

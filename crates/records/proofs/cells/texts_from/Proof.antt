@@ -8,15 +8,6 @@ use borrow.Author.Needs.{needs}
 use Rattle.records.proofs.cells.texts_from.Statement.{statement}
 use Rattle.records.proofs.cells.texts_from.Tie as tie
 
-from-requires : tie.Need-from-requires
-from-requires c κs = search needs
-
-u16-at-requires : tie.Need-u16-at-requires
-u16-at-requires c κs = search needs
-
-cast-result : tie.Need-cast-result
-cast-result c = search needs
-
 returns : tie.Need-returns
 unfolding textsFrom
 returns c =
@@ -25,4 +16,4 @@ returns c =
     (c .u16-at .ensures ∙ uint 48 2, omega arith)
 
 pub texts-from-spec : {M : Type 1} → statement M
-texts-from-spec = tie.close (tie.spec from-requires u16-at-requires cast-result returns)
+texts-from-spec = tie.close (tie.spec (λ c κs. search needs) (λ c κs. search needs) (λ c. search needs) returns)

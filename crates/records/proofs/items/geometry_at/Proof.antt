@@ -7,27 +7,6 @@ use borrow.Author.Needs.{needs}
 use Rattle.records.proofs.items.geometry_at.Statement.{statement}
 use Rattle.records.proofs.items.geometry_at.Tie as tie
 
-from-requires : tie.Need-from-requires
-from-requires c κs = search needs
-
-u16-at-requires : tie.Need-u16-at-requires
-u16-at-requires c κs = search needs
-
-cast-t5 : tie.Need-cast-t5
-cast-t5 c = search needs
-
-u16-at-requires-2 : tie.Need-u16-at-requires-2
-u16-at-requires-2 c κs = search needs
-
-cast-t7 : tie.Need-cast-t7
-cast-t7 c = search needs
-
-u32-at-requires : tie.Need-u32-at-requires
-u32-at-requires c κs = search needs
-
-world-bbox-at-requires : tie.Need-world-bbox-at-requires
-world-bbox-at-requires c κs = search needs
-
 returns : tie.Need-returns
 unfolding geometryAt
 returns c =
@@ -45,11 +24,11 @@ pub geometry-at-spec : {M : Type 1} → statement M
 geometry-at-spec =
     tie.close
     (tie.spec
-    from-requires
-    u16-at-requires
-    cast-t5
-    u16-at-requires-2
-    cast-t7
-    u32-at-requires
-    world-bbox-at-requires
+    (λ c κs. search needs)
+    (λ c κs. search needs)
+    (λ c. search needs)
+    (λ c κs. search needs)
+    (λ c. search needs)
+    (λ c κs. search needs)
+    (λ c κs. search needs)
     returns)

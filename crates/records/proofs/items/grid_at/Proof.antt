@@ -8,45 +8,6 @@ use borrow.Author.Needs.{needs}
 use Rattle.records.proofs.items.grid_at.Statement.{statement}
 use Rattle.records.proofs.items.grid_at.Tie as tie
 
-from-requires : tie.Need-from-requires
-from-requires c κs = search needs
-
-u16-at-requires : tie.Need-u16-at-requires
-u16-at-requires c κs = search needs
-
-cast-t5 : tie.Need-cast-t5
-cast-t5 c = search needs
-
-u16-at-requires-2 : tie.Need-u16-at-requires-2
-u16-at-requires-2 c κs = search needs
-
-cast-t7 : tie.Need-cast-t7
-cast-t7 c = search needs
-
-u16-at-requires-3 : tie.Need-u16-at-requires-3
-u16-at-requires-3 c κs = search needs
-
-bit-requires : tie.Need-bit-requires
-bit-requires c κs = search needs
-
-dvec2-at-requires : tie.Need-dvec2-at-requires
-dvec2-at-requires c κs = search needs
-
-dvec2-at-requires-2 : tie.Need-dvec2-at-requires-2
-dvec2-at-requires-2 c κs = search needs
-
-dvec2-at-requires-3 : tie.Need-dvec2-at-requires-3
-dvec2-at-requires-3 c κs = search needs
-
-f64-at-requires : tie.Need-f64-at-requires
-f64-at-requires c κs = search needs
-
-f64-at-requires-2 : tie.Need-f64-at-requires-2
-f64-at-requires-2 c κs = search needs
-
-f64-at-requires-3 : tie.Need-f64-at-requires-3
-f64-at-requires-3 c κs = search needs
-
 returns : tie.Need-returns
 unfolding gridAt
 returns c =
@@ -70,17 +31,17 @@ pub grid-at-spec : {M : Type 1} → statement M
 grid-at-spec =
     tie.close
     (tie.spec
-    from-requires
-    u16-at-requires
-    cast-t5
-    u16-at-requires-2
-    cast-t7
-    u16-at-requires-3
-    bit-requires
-    dvec2-at-requires
-    dvec2-at-requires-2
-    dvec2-at-requires-3
-    f64-at-requires
-    f64-at-requires-2
-    f64-at-requires-3
+    (λ c κs. search needs)
+    (λ c κs. search needs)
+    (λ c. search needs)
+    (λ c κs. search needs)
+    (λ c. search needs)
+    (λ c κs. search needs)
+    (λ c κs. search needs)
+    (λ c κs. search needs)
+    (λ c κs. search needs)
+    (λ c κs. search needs)
+    (λ c κs. search needs)
+    (λ c κs. search needs)
+    (λ c κs. search needs)
     returns)

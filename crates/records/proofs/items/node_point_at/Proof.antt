@@ -7,18 +7,6 @@ use borrow.Author.Needs.{needs}
 use Rattle.records.proofs.items.node_point_at.Statement.{statement}
 use Rattle.records.proofs.items.node_point_at.Tie as tie
 
-from-requires : tie.Need-from-requires
-from-requires c κs = search needs
-
-mul-dvec2-at : tie.Need-mul-dvec2-at
-mul-dvec2-at c = search needs
-
-add-dvec2-at : tie.Need-add-dvec2-at
-add-dvec2-at c = search needs
-
-dvec2-at-requires : tie.Need-dvec2-at-requires
-dvec2-at-requires c κs = search needs
-
 returns : tie.Need-returns
 unfolding nodePointAt
 returns c =
@@ -28,4 +16,4 @@ returns c =
 
 pub node-point-at-spec : {M : Type 1} → statement M
 node-point-at-spec =
-    tie.close (tie.spec from-requires mul-dvec2-at add-dvec2-at dvec2-at-requires returns)
+    tie.close (tie.spec (λ c κs. search needs) (λ c. search needs) (λ c. search needs) (λ c κs. search needs) returns)

@@ -9,30 +9,6 @@ use borrow.Author.Needs.{needs}
 use Rattle.records.proofs.items.reference_at.Statement.{statement}
 use Rattle.records.proofs.items.reference_at.Tie as tie
 
-from-requires : tie.Need-from-requires
-from-requires c κs = search needs
-
-grid-at-requires : tie.Need-grid-at-requires
-grid-at-requires c κs = search needs
-
-u16-at-requires : tie.Need-u16-at-requires
-u16-at-requires c κs = search needs
-
-u32-at-requires : tie.Need-u32-at-requires
-u32-at-requires c κs = search needs
-
-source-of-requires : tie.Need-source-of-requires
-source-of-requires c κs = search needs
-
-u16-at-requires-2 : tie.Need-u16-at-requires-2
-u16-at-requires-2 c κs = search needs
-
-bit-requires : tie.Need-bit-requires
-bit-requires c κs = search needs
-
-bounds-at-requires : tie.Need-bounds-at-requires
-bounds-at-requires c κs = search needs
-
 returns : tie.Need-returns
 unfolding referenceAt
 returns c =
@@ -49,12 +25,12 @@ pub reference-at-spec : {M : Type 1} → statement M
 reference-at-spec =
     tie.close
     (tie.spec
-    from-requires
-    grid-at-requires
-    u16-at-requires
-    u32-at-requires
-    source-of-requires
-    u16-at-requires-2
-    bit-requires
-    bounds-at-requires
+    (λ c κs. search needs)
+    (λ c κs. search needs)
+    (λ c κs. search needs)
+    (λ c κs. search needs)
+    (λ c κs. search needs)
+    (λ c κs. search needs)
+    (λ c κs. search needs)
+    (λ c κs. search needs)
     returns)

@@ -7,24 +7,6 @@ use borrow.Author.Needs.{needs}
 use Rattle.records.proofs.items.text_at.Statement.{statement}
 use Rattle.records.proofs.items.text_at.Tie as tie
 
-from-requires : tie.Need-from-requires
-from-requires c κs = search needs
-
-u16-at-requires : tie.Need-u16-at-requires
-u16-at-requires c κs = search needs
-
-cast-t5 : tie.Need-cast-t5
-cast-t5 c = search needs
-
-u16-at-requires-2 : tie.Need-u16-at-requires-2
-u16-at-requires-2 c κs = search needs
-
-cast-t7 : tie.Need-cast-t7
-cast-t7 c = search needs
-
-dvec2-at-requires : tie.Need-dvec2-at-requires
-dvec2-at-requires c κs = search needs
-
 returns : tie.Need-returns
 unfolding textAt
 returns c =
@@ -41,10 +23,10 @@ pub text-at-spec : {M : Type 1} → statement M
 text-at-spec =
     tie.close
     (tie.spec
-    from-requires
-    u16-at-requires
-    cast-t5
-    u16-at-requires-2
-    cast-t7
-    dvec2-at-requires
+    (λ c κs. search needs)
+    (λ c κs. search needs)
+    (λ c. search needs)
+    (λ c κs. search needs)
+    (λ c. search needs)
+    (λ c κs. search needs)
     returns)

@@ -4,9 +4,6 @@ use borrow.Author.Needs.{needs}
 use Rattle.records.proofs.parts.bounds_at.Statement.{statement}
 use Rattle.records.proofs.parts.bounds_at.Tie as tie
 
-world-bbox-at-requires : tie.Need-world-bbox-at-requires
-world-bbox-at-requires c κs = search needs
-
 returns : tie.Need-returns
 unfolding boundsAt worldBBoxAt
 returns c = rw (c .before .if1 .taken, c .world-bbox-at .ensures)
@@ -16,4 +13,4 @@ unfolding boundsAt
 returns-2 c = rw (c .if1 .left)
 
 pub bounds-at-spec : {M : Type 1} → statement M
-bounds-at-spec = tie.close (tie.spec world-bbox-at-requires returns returns-2)
+bounds-at-spec = tie.close (tie.spec (λ c κs. search needs) returns returns-2)

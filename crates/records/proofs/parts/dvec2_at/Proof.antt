@@ -7,15 +7,6 @@ use borrow.Author.Needs.{needs}
 use Rattle.records.proofs.parts.dvec2_at.Statement.{statement}
 use Rattle.records.proofs.parts.dvec2_at.Tie as tie
 
-f64-at-requires : tie.Need-f64-at-requires
-f64-at-requires c κs = search needs
-
-from-requires : tie.Need-from-requires
-from-requires c κs = search needs
-
-f64-at-requires-2 : tie.Need-f64-at-requires-2
-f64-at-requires-2 c κs = search needs
-
 returns : tie.Need-returns
 unfolding dvec2At
 returns c =
@@ -24,4 +15,4 @@ returns c =
     λ i. record { x = (c .before .before .f64-at .ensures) i; y = (c .f64-at2 .ensures ∙ float 8) i }
 
 pub dvec2-at-spec : {M : Type 1} → statement M
-dvec2-at-spec = tie.close (tie.spec f64-at-requires from-requires f64-at-requires-2 returns)
+dvec2-at-spec = tie.close (tie.spec (λ c κs. search needs) (λ c κs. search needs) (λ c κs. search needs) returns)

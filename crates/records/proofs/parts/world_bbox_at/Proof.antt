@@ -7,21 +7,6 @@ use borrow.Author.Needs.{needs}
 use Rattle.records.proofs.parts.world_bbox_at.Statement.{statement}
 use Rattle.records.proofs.parts.world_bbox_at.Tie as tie
 
-from-requires : tie.Need-from-requires
-from-requires c κs = search needs
-
-f64-at-requires : tie.Need-f64-at-requires
-f64-at-requires c κs = search needs
-
-f64-at-requires-2 : tie.Need-f64-at-requires-2
-f64-at-requires-2 c κs = search needs
-
-f64-at-requires-3 : tie.Need-f64-at-requires-3
-f64-at-requires-3 c κs = search needs
-
-f64-at-requires-4 : tie.Need-f64-at-requires-4
-f64-at-requires-4 c κs = search needs
-
 returns : tie.Need-returns
 unfolding worldBBoxAt
 returns c =
@@ -38,9 +23,9 @@ pub world-bbox-at-spec : {M : Type 1} → statement M
 world-bbox-at-spec =
     tie.close
     (tie.spec
-    from-requires
-    f64-at-requires
-    f64-at-requires-2
-    f64-at-requires-3
-    f64-at-requires-4
+    (λ c κs. search needs)
+    (λ c κs. search needs)
+    (λ c κs. search needs)
+    (λ c κs. search needs)
+    (λ c κs. search needs)
     returns)

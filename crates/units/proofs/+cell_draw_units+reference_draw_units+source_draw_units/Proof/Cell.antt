@@ -4,8 +4,8 @@ use Prim.Native.Nat.{ℕ, _-_, _≤_}
 use native.Mathlib.Omega.{arith}
 use borrow.Author.Needs.{needs}
 use lib.ListN.{length}
-use Rattle.rules.specs.DrawUnits.{counted, fold}
-use Rattle.rules.proofs.Paths.Loops.{fold-start, fold-turn, fold-done}
+use Rattle.plan_rules.specs.DrawUnits.{counted, fold}
+use Rattle.plan_rules.proofs.Paths.Loops.{fold-start, fold-turn, fold-done}
 use Rattle.units.proofs.Exits
 use Rattle.units.proofs.cell_draw_units.Reads as cell
 use Rattle.units.proofs.+cell_draw_units+reference_draw_units+source_draw_units.Lts-cell_draw_units as lts

@@ -3,11 +3,8 @@ use borrow.Author.Needs.{needs}
 use Rattle.units.proofs.scratch.is_marked.Statement.{statement}
 use Rattle.units.proofs.scratch.is_marked.Tie as tie
 
-mark-at-requires : tie.Need-mark-at-requires
-mark-at-requires c κs = search needs
-
 returns : tie.Need-returns
 returns c = rw (c .mark-at .ensures)
 
 pub is-marked-spec : {M : Type 1} → statement M
-is-marked-spec = tie.close (tie.spec mark-at-requires returns)
+is-marked-spec = tie.close (tie.spec (λ c κs. search needs) returns)

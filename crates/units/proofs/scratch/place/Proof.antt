@@ -1,6 +1,6 @@
 -- `units::scratch::place` meets its contract. Assumes nothing.
 use mathlib.Core.Path.{refl}
-use Rattle.rules.specs.Scratch.{place}
+use Rattle.plan_rules.specs.Scratch.{place}
 use Rattle.units.proofs.Products.{layer-fits, place-fits}
 use borrow.Author.Needs.{needs}
 use Rattle.units.proofs.scratch.place.Statement.{statement}

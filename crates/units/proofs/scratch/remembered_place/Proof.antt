@@ -3,14 +3,8 @@ use borrow.Author.Needs.{needs}
 use Rattle.units.proofs.scratch.remembered_place.Statement.{statement}
 use Rattle.units.proofs.scratch.remembered_place.Tie as tie
 
-add-place : tie.Need-add-place
-add-place c = search needs
-
-place-requires : tie.Need-place-requires
-place-requires c κs = search needs
-
 returns : tie.Need-returns
 returns c = c .place .ensures
 
 pub remembered-place-spec : {M : Type 1} → statement M
-remembered-place-spec = tie.close (tie.spec add-place place-requires returns)
+remembered-place-spec = tie.close (tie.spec (λ c. search needs) (λ c κs. search needs) returns)

@@ -5,22 +5,10 @@ use borrow.Author.Needs.{needs}
 use Rattle.units.proofs.scratch.set_count.Statement.{statement}
 use Rattle.units.proofs.scratch.set_count.Tie as tie
 
-mul-counts : tie.Need-mul-counts
-mul-counts c = search needs
-
-slice-write-counts : tie.Need-slice-write-counts
-slice-write-counts c = search needs
-
-same-length : tie.Need-same-length
-same-length c = search needs
-
-returns : tie.Need-returns
-returns c = search needs
-
 returns-2 : tie.Need-returns-2
 returns-2 c =
     let a = c .before .args in
     sym (set-out (a .counts .now) (a .place) (a .value) (c .if1 .left))
 
 pub set-count-spec : {M : Type 1} → statement M
-set-count-spec = tie.close (tie.spec mul-counts slice-write-counts same-length returns returns-2)
+set-count-spec = tie.close (tie.spec (λ c. search needs) (λ c. search needs) (λ c. search needs) (λ c. search needs) returns-2)

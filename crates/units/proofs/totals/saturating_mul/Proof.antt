@@ -8,9 +8,6 @@ use Rattle.units.proofs.totals.saturating_mul.Tie as tie
 returns : tie.Need-returns
 returns c = product-none _ _ (c .if1 .taken)
 
-div-if2 : tie.Need-div-if2
-div-if2 c = search needs
-
 mul-result : tie.Need-mul-result
 mul-result c =
     let p = product-fits _ _ (c .before .if1 .left) (c .if2 .taken) in
@@ -23,4 +20,4 @@ returns-3 : tie.Need-returns-3
 returns-3 c = product-stops _ _ (c .before .if1 .left) (c .if2 .left)
 
 pub saturating-mul-spec : {M : Type 1} → statement M
-saturating-mul-spec = tie.close (tie.spec returns div-if2 mul-result returns-2 returns-3)
+saturating-mul-spec = tie.close (tie.spec returns (λ c. search needs) mul-result returns-2 returns-3)

@@ -3,8 +3,8 @@
 use mathlib.Core.Path.{sym, ap}
 use native.Mathlib.Omega.{arith}
 use Rattle.records.specs.declared.PreparedCell.{PreparedCell}
-use Rattle.layout.specs.Sheet.{cellRecordAt}
-use Rattle.rules.specs.World.{go}
+use Rattle.abstract_sheet.specs.Sheet.{cellRecordAt}
+use Rattle.plan_rules.specs.World.{go}
 use Rattle.visit_items.proofs.CellLoop.{μ}
 use Rattle.visit_items.proofs.CellLoop
 use borrow.Author.Needs.{needs}

@@ -7,8 +7,8 @@ use Prim.Native.Nat.{ℕ}
 use native.Mathlib.Omega.{arith}
 use borrow.Author.Tests.{not-true, not-false}
 use Rattle.records.specs.declared.PreparedCell.{PreparedCell}
-use Rattle.layout.specs.Sheet.{cellRecordAt}
-use Rattle.rules.specs.World.{world, flow}
+use Rattle.abstract_sheet.specs.Sheet.{cellRecordAt}
+use Rattle.plan_rules.specs.World.{world, flow}
 use Rattle.visit_items.proofs.CellLoop.{μ}
 use Rattle.visit_items.proofs.CellLoop
 use borrow.Author.Needs.{needs}

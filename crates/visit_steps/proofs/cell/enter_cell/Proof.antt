@@ -7,12 +7,12 @@ use mathlib.Core.Logic.{⊎-elim}
 use Prim.Native.Nat.{ℕ}
 use denote.Ref.{now}
 use Rattle.records.specs.declared.PreparedCell.{PreparedCell}
-use Rattle.layout.specs.Sheet.{cellRecordAt}
-use Rattle.rules.specs.Event.{detailCell}
-use Rattle.rules.specs.World.{queryOf, world}
-use Rattle.rules.specs.Push.{say}
-use Rattle.rules.specs.Visit.{transformBounds, isOutside}
-use Rattle.rules.specs.Tape.{noTag, onTape}
+use Rattle.abstract_sheet.specs.Sheet.{cellRecordAt}
+use Rattle.plan_rules.specs.Event.{detailCell}
+use Rattle.plan_rules.specs.World.{queryOf, world}
+use Rattle.plan_rules.specs.Push.{say}
+use Rattle.plan_rules.specs.Visit.{transformBounds, isOutside}
+use Rattle.plan_rules.specs.Tape.{noTag, onTape}
 use Rattle.visit_steps.proofs.FoundCell.{cell-outside, cell-detail-full, cell-exhausted, cell-open, cell-entered}
 use borrow.Author.Needs.{needs}
 use Rattle.visit_steps.proofs.cell.enter_cell.Statement.{statement}

@@ -6,9 +6,9 @@ use Prim.Native.Nat.{ℕ}
 use denote.Ref.{now}
 use borrow.Author.Tests.{not-true, not-false}
 use Rattle.geometry.specs.Bbox.{transformBbox}
-use Rattle.rules.specs.World.{world}
-use Rattle.rules.specs.Push.{addLoad}
-use Rattle.rules.specs.Tape.{noTag, onTape}
+use Rattle.plan_rules.specs.World.{world}
+use Rattle.plan_rules.specs.Push.{addLoad}
+use Rattle.plan_rules.specs.Tape.{noTag, onTape}
 use Rattle.visit_steps.proofs.SourcedReference.{is-over, reference-unboxed, reference-empty, reference-culled, reference-detail-full, reference-exhausted, reference-opened}
 use borrow.Author.Needs.{needs}
 use Rattle.visit_steps.proofs.reference.open_reference.Statement.{statement}

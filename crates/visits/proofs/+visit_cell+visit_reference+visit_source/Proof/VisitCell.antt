@@ -5,13 +5,13 @@ use Prim.Native.Nat.{ℕ, _-_, _≤_}
 use native.Mathlib.Omega.{arith}
 use borrow.Author.Needs.{needs}
 use lib.ListN.{length, set}
-use Rattle.layout.specs.Sheet.{sheetOf}
-use Rattle.rules.specs.declared.ScenePlan.{ScenePlan}
-use Rattle.rules.specs.World.{queryOf, world, each, ending}
-use Rattle.rules.specs.Scratch.{openPlace}
-use Rattle.rules.specs.Visit.{visitReference, visitCell}
-use Rattle.rules.specs.Tape.{noTag, onTape}
-use Rattle.rules.proofs.Paths.Loops.{each-start, each-go, each-halt, each-done}
+use Rattle.abstract_sheet.specs.Sheet.{sheetOf}
+use Rattle.plan_rules.specs.declared.ScenePlan.{ScenePlan}
+use Rattle.plan_rules.specs.World.{queryOf, world, each, ending}
+use Rattle.plan_rules.specs.Scratch.{openPlace}
+use Rattle.plan_rules.specs.Visit.{visitReference, visitCell}
+use Rattle.plan_rules.specs.Tape.{noTag, onTape}
+use Rattle.plan_rules.proofs.Paths.Loops.{each-start, each-go, each-halt, each-done}
 use Rattle.visits.proofs.Cells
 use Rattle.visits.proofs.visit_cell.Reads as visit-cell
 use Rattle.visits.proofs.+visit_cell+visit_reference+visit_source.Lts-visit_cell as lts

@@ -8,12 +8,12 @@ use native.Mathlib.Omega.{arith}
 use borrow.Author.Needs.{needs}
 use borrow.Author.Tests.{not-true, not-false}
 use lib.ListN.{length}
-use Rattle.layout.specs.Sheet.{sheetOf}
-use Rattle.rules.specs.World.{queryOf, World, world, Flow, go, halt, flow, ending, each}
-use Rattle.rules.specs.DrawUnits.{referenceDrawUnits}
-use Rattle.rules.specs.Visit.{label, haltWithMember, visitCountedReference, visitReference, visitSource}
-use Rattle.rules.specs.Tape.{noTag, onTape}
-use Rattle.rules.proofs.Paths.Loops.{each-start, each-go, each-halt, each-done}
+use Rattle.abstract_sheet.specs.Sheet.{sheetOf}
+use Rattle.plan_rules.specs.World.{queryOf, World, world, Flow, go, halt, flow, ending, each}
+use Rattle.plan_rules.specs.DrawUnits.{referenceDrawUnits}
+use Rattle.plan_rules.specs.Visit.{label, haltWithMember, visitCountedReference, visitReference, visitSource}
+use Rattle.plan_rules.specs.Tape.{noTag, onTape}
+use Rattle.plan_rules.proofs.Paths.Loops.{each-start, each-go, each-halt, each-done}
 use Rattle.visits.proofs.References
 use Rattle.visits.proofs.visit_reference.Reads as visit-reference
 use Rattle.visits.proofs.+visit_cell+visit_reference+visit_source.Lts-visit_reference as lts

@@ -1,6 +1,6 @@
 -- The ways out of `visits::visit_source`, one for each kind of source. Assumes nothing.
 use Prim.Native.Nat.{ℕ}
-use Rattle.rules.specs.World.{queryOf, world, flow}
+use Rattle.plan_rules.specs.World.{queryOf, world, flow}
 use Rattle.visits.proofs.Cells
 use Rattle.visits.proofs.visit_source.Reads as visit-source
 use Rattle.visits.proofs.+visit_cell+visit_reference+visit_source.Lts-visit_source as lts

@@ -1,0 +1,71 @@
+// Question 5.
+ghost use mathlib.Core.Path.{_≡_};
+ghost use mathlib.Core.Bool.{true};
+ghost use Prim.Native.Nat.{_+_, _*_, _≤_};
+ghost use lib.ListN.{length};
+ghost use lib.Ieee.{binary64, ofBits};
+ghost use Rattle.floats.specs.Order.{isFinite};
+ghost use Rattle.walk.specs.Offsets.{Whole};
+ghost use Rattle.check_record.specs.Tests.{every};
+ghost use Rattle.check_record.specs.Shape.{shapeOk};
+ghost use Rattle.check_record.specs.Floats.{finiteAt, floatsFrom, floatsCount, floatsOk};
+
+// Whether a pattern is that of a finite float: its exponent field is not all ones.
+pub fn finite_bits(n: u64) -> bool
+    ensures { λ r. ⌜ r ≡ isFinite (ofBits binary64 n) ⌝ }
+{
+    n % 0x8000_0000_0000_0000 / 0x10_0000_0000_0000 != 2047
+}
+
+// Whether `count` floats side by side are finite.
+pub fn all_finite(s: &[u8], from: usize, count: usize) -> bool
+    requires { ⌜ from + 8 * count ≤ length (now s) ⌝ }
+    ensures { λ r. ⌜ r ≡ every (finiteAt (now (s .entry))) 8 count from ⌝ }
+{
+    let mut at = from;
+    let mut left = count;
+    while 0 < left {
+        if finite_bits(fields::u64_within(s, at)) {
+            at += 8;
+            left -= 1;
+        } else {
+            return false;
+        }
+    }
+    true
+}
+
+pub fn floats_from(kind: u16) -> usize
+    ensures { λ r. ⌜ r ≡ floatsFrom kind ⌝ }
+{
+    match kind {
+        1 => 14,
+        4 => 18,
+        5 => 16,
+        _ => 10,
+    }
+}
+
+pub fn floats_count(kind: u16, n: usize) -> usize
+    requires { ⌜ 10 ≤ n ⌝ }
+    ensures { λ r. ⌜ r ≡ floatsCount kind n ⌝ }
+{
+    match kind {
+        1 => 4,
+        2 => 2,
+        3 => (n - 10) / 8,
+        4 => 13,
+        _ => 4,
+    }
+}
+
+// "Is every float finite?"
+pub fn floats_ok(s: &[u8], at: usize) -> bool
+    requires { ⌜ Whole (now s) at ⌝ }
+    requires { ⌜ shapeOk (now s) at ≡ true ⌝ }
+    ensures { λ r. ⌜ r ≡ floatsOk (now (s .entry)) at ⌝ }
+{
+    let kind = fields::u16_within(s, at + 4);
+    let n = fields::u32_within(s, at) as usize;
+    all_finite(s, at + floats_from(kind), floats_count(kind, n))
+}

@@ -1,0 +1,108 @@
+// Question 4.
+ghost use mathlib.Core.Path.{_≡_};
+ghost use mathlib.Core.Bool.{true};
+ghost use Prim.Native.Nat.{_+_, _≤_};
+ghost use lib.ListN.{length};
+ghost use Rattle.walk.specs.Offsets.{Whole};
+ghost use Rattle.check_record.specs.Shape.{shapeOk};
+ghost use Rattle.check_record.specs.Values.{zeroBox, sourceOk, gridOk, referenceOk, cellOk, valuesOk};
+
+// "An absent box is 32 zero bytes."
+pub fn zero_box(s: &[u8], at: usize) -> bool
+    requires { ⌜ at + 32 ≤ length (now s) ⌝ }
+    ensures { λ r. ⌜ r ≡ zeroBox (now (s .entry)) at ⌝ }
+{
+    if fields::u64_within(s, at) != 0 {
+        return false;
+    }
+    if fields::u64_within(s, at + 8) != 0 {
+        return false;
+    }
+    if fields::u64_within(s, at + 16) != 0 {
+        return false;
+    }
+    fields::u64_within(s, at + 24) == 0
+}
+
+// "the source kind 1 to 5, and a cell source below FFFFFFFF (hexadecimal)"
+pub fn source_ok(kind: u16, number: u32) -> bool
+    ensures { λ r. ⌜ r ≡ sourceOk kind number ⌝ }
+{
+    if kind < 1 {
+        return false;
+    }
+    if 5 < kind {
+        return false;
+    }
+    if kind == 5 {
+        number < 0xffff_ffff
+    } else {
+        true
+    }
+}
+
+// What is asked of a reference's numbers, where it is known whether its source is right and whether its box is all zero.
+pub fn grid_ok(columns: u16, rows: u16, flags: u16, source: bool, zeros: bool) -> bool
+    ensures { λ r. ⌜ r ≡ gridOk columns rows flags source zeros ⌝ }
+{
+    if 32767 < columns {
+        return false;
+    }
+    if 32767 < rows {
+        return false;
+    }
+    if 4 <= flags {
+        return false;
+    }
+    if source {
+        if flags / 2 % 2 == 1 { true } else { zeros }
+    } else {
+        false
+    }
+}
+
+pub fn reference_ok(s: &[u8], at: usize) -> bool
+    requires { ⌜ at + 122 ≤ length (now s) ⌝ }
+    ensures { λ r. ⌜ r ≡ referenceOk (now (s .entry)) at ⌝ }
+{
+    let source = source_ok(
+        fields::u16_within(s, at + 12),
+        fields::u32_within(s, at + 14),
+    );
+    let zeros = zero_box(s, at + 90);
+    let columns = fields::u16_within(s, at + 6);
+    let rows = fields::u16_within(s, at + 8);
+    let flags = fields::u16_within(s, at + 10);
+    grid_ok(columns, rows, flags, source, zeros)
+}
+
+pub fn cell_ok(s: &[u8], at: usize) -> bool
+    requires { ⌜ at + 56 ≤ length (now s) ⌝ }
+    ensures { λ r. ⌜ r ≡ cellOk (now (s .entry)) at ⌝ }
+{
+    let flags = fields::u16_within(s, at + 6);
+    if 2 <= flags {
+        return false;
+    }
+    if flags == 1 {
+        return true;
+    }
+    zero_box(s, at + 16)
+}
+
+// "Are columns and rows at most 32,767, spare flag bits zero, absent boxes zero, the source kind 1 to 5,
+// and a cell source below FFFFFFFF (hexadecimal)?"
+pub fn values_ok(s: &[u8], at: usize) -> bool
+    requires { ⌜ Whole (now s) at ⌝ }
+    requires { ⌜ shapeOk (now s) at ≡ true ⌝ }
+    ensures { λ r. ⌜ r ≡ valuesOk (now (s .entry)) at ⌝ }
+{
+    let kind = fields::u16_within(s, at + 4);
+    if kind == 4 {
+        return reference_ok(s, at);
+    }
+    if kind == 5 {
+        return cell_ok(s, at);
+    }
+    true
+}

@@ -1,0 +1,55 @@
+-- `sheet::links::link_ok` meets its contract. A record's length by its kind says that the fields lie within it.
+-- Assumes nothing.
+use mathlib.Core.Path.{_≡_, sym, _∙_}
+use native.Mathlib.Omega.{arith}
+use denote.Ref.{now}
+use Rattle.walk.specs.Offsets.{lengthAt}
+use Rattle.check_record.specs.Tests.{tests}
+use Rattle.check_record.specs.Facts.Lengths.{shape-sized}
+use Rattle.check_sheet.specs.Links.{linkOk}
+use borrow.Author.Needs.{needs}
+use Rattle.check_sheet.proofs.links.link_ok.Statement.{statement}
+use Rattle.check_sheet.proofs.links.link_ok.Tie as tie
+
+-- a reference's length
+long : (c : tie.Then1) → lengthAt (now (c .before .before .before .args .s)) (c .before .before .before .args .at) ≡ 122
+long c = shape-sized _ _ (c .before .before .before .pre .shape) .reference (sym (c .before .u16-within .ensures) ∙ c .if1 .taken)
+
+u16-within-requires-2 : tie.Need-u16-within-requires-2
+u16-within-requires-2 c κs = omega (arith, long c, c .before .before .before .pre .whole)
+
+u32-within-requires : tie.Need-u32-within-requires
+u32-within-requires c κs = omega (arith, long (c .before), c .before .before .before .before .pre .whole)
+
+returns : tie.Need-returns
+unfolding linkOk
+returns c = search (tests, ← c .before .before .before .before .u16-within .ensures, ← c .before .before .u16-within2 .ensures, ← c .before .u32-within .ensures, c .source-named .ensures)
+
+lists-named-requires : tie.Need-lists-named-requires
+lists-named-requires c κs =
+    let r = c .before .before .before .before .pre in
+    omega (arith, r .whole, shape-sized _ _ (r .shape) .cell (sym (c .before .before .u16-within .ensures) ∙ c .if2 .taken))
+
+returns-2 : tie.Need-returns-2
+unfolding linkOk
+returns-2 c = search (tests, ← c .before .before .before .u16-within .ensures, c .lists-named .ensures)
+
+returns-3 : tie.Need-returns-3
+unfolding linkOk
+returns-3 c = search (tests, ← c .before .before .u16-within .ensures)
+
+pub link-ok-spec : {M : Type 1} → statement M
+link-ok-spec =
+    tie.close
+    (tie.spec
+    (λ c. search needs)
+    (λ c κs. search needs)
+    (λ c. search needs)
+    u16-within-requires-2
+    (λ c. search needs)
+    u32-within-requires
+    (λ c κs. search needs)
+    returns
+    lists-named-requires
+    returns-2
+    returns-3)

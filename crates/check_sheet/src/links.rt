@@ -1,0 +1,111 @@
+// The second pass: question 7, record by record.
+ghost use mathlib.Core.Path.{_≡_};
+ghost use Prim.Native.Nat.{_+_, _*_, _≤_};
+ghost use lib.ListN.{length};
+ghost use Rattle.walk.specs.Offsets.{offsets};
+ghost use Rattle.walk.specs.Every.{All};
+ghost use Rattle.check_record.specs.Tests.{every};
+ghost use Rattle.check_record.specs.Shape.{listsAt};
+ghost use Rattle.check_record.specs.Record.{Right};
+ghost use Rattle.check_sheet.specs.declared.Checked.the-variants.{Sound};
+ghost use Rattle.check_sheet.specs.Links.{sourceNamed, belowAt, listsNamed, linkOk};
+ghost use Rattle.check_sheet.specs.Check.{firstUnnamed};
+use crate::Checked;
+use crate::Counts;
+use crate::scan::tally;
+
+// Whether `count` numbers side by side are below a bound.
+pub fn all_below(s: &[u8], from: usize, count: usize, bound: u32) -> bool
+    requires { ⌜ from + 4 * count ≤ length (now s) ⌝ }
+    ensures { λ r. ⌜ r ≡ every (belowAt (now (s .entry)) bound) 4 count from ⌝ }
+{
+    let mut at = from;
+    let mut left = count;
+    while 0 < left {
+        if fields::u32_within(s, at) < bound {
+            at += 4;
+            left -= 1;
+        } else {
+            return false;
+        }
+    }
+    true
+}
+
+// Whether a source names an existing record, and a reference source one before its own number. A cell source may name any.
+pub fn source_named(kind: u16, number: u32, c: Counts, own: u32) -> bool
+    ensures { λ r. ⌜ r ≡ sourceNamed kind number c own ⌝ }
+{
+    match kind {
+        1 => number < c.geometries,
+        2 => number < c.texts,
+        3 => number < c.nodes,
+        4 => number < own,
+        _ => true,
+    }
+}
+
+// Whether every number in a cell names an existing record.
+pub fn lists_named(s: &[u8], c: Counts, at: usize) -> bool
+    requires { ⌜ at + 56 + 4 * listsAt (now s) at ≤ length (now s) ⌝ }
+    ensures { λ r. ⌜ r ≡ listsNamed (now (s .entry)) c at ⌝ }
+{
+    let geometries = fields::u16_within(s, at + 48) as usize;
+    let texts = fields::u16_within(s, at + 50) as usize;
+    let nodes = fields::u16_within(s, at + 52) as usize;
+    let references = fields::u16_within(s, at + 54) as usize;
+    if all_below(s, at + 56, geometries, c.geometries) {
+        if all_below(s, at + 56 + 4 * geometries, texts, c.texts) {
+            if all_below(s, at + 56 + 4 * (geometries + texts), nodes, c.nodes) {
+                all_below(
+                    s,
+                    at + 56 + 4 * (geometries + texts + nodes),
+                    references,
+                    c.references,
+                )
+            } else {
+                false
+            }
+        } else {
+            false
+        }
+    } else {
+        false
+    }
+}
+
+// Whether what the record names exists, where `own` is the number that a reference here has.
+pub fn link_ok(s: &[u8], c: Counts, own: u32, at: usize) -> bool
+    requires { ⌜ Right (now s) at ⌝ }
+    ensures { λ r. ⌜ r ≡ linkOk (now (s .entry)) c own at ⌝ }
+{
+    let kind = fields::u16_within(s, at + 4);
+    if kind == 4 {
+        let source = fields::u16_within(s, at + 12);
+        let number = fields::u32_within(s, at + 14);
+        return source_named(source, number, c, own);
+    }
+    if kind == 5 {
+        return lists_named(s, c, at);
+    }
+    true
+}
+
+// The first record that names what is missing, or the counts of a sound sheet.
+pub fn links(s: &[u8], c: Counts) -> Checked
+    requires { ⌜ length (now s) ≤ 16777216 ⌝ }
+    requires { ⌜ All (Right (now s)) (offsets (now s)) ⌝ }
+    ensures { λ r. ⌜ r ≡ firstUnnamed (now (s .entry)) c 0 (offsets (now (s .entry))) (Sound c) ⌝ }
+{
+    let mut at = 0;
+    let mut own = 0;
+    while at < s.len() {
+        if link_ok(s, c, own, at) {
+            own = tally(own, fields::u16_within(s, at + 4), 4);
+            at += fields::u32_within(s, at) as usize;
+        } else {
+            return Checked::Refused(6, at);
+        }
+    }
+    Checked::Sound(c)
+}

@@ -1,0 +1,17 @@
+-- `sheet_c::sheet_check` meets its contract: the number and the offset of the answer, case by case.
+-- Assumes nothing.
+use mathlib.Core.Path.{sym, ap, _∙_}
+use Rattle.check_sheet.specs.Check.{numberOf, offsetOf}
+use borrow.Author.Needs.{needs}
+use Rattle.check_sheet_c.proofs.sheet_check.Statement.{statement}
+use Rattle.check_sheet_c.proofs.sheet_check.Tie as tie
+
+returns : tie.Need-returns
+returns c = let e = sym (c .before .before .check-sheet .ensures) ∙ c .enum-told .given .1 in (sym (ap numberOf e), sym (ap offsetOf e))
+
+returns-2 : tie.Need-returns-2
+returns-2 c = let e = sym (c .before .before .before .check-sheet .ensures) ∙ c .before .number .given .1 in (sym (ap numberOf e), sym (ap offsetOf e))
+
+pub sheet-check-spec : {M : Type 1} → statement M
+sheet-check-spec =
+    tie.close (tie.spec (λ c κs. search needs) (λ c. search needs) (λ c. search needs) returns returns-2)

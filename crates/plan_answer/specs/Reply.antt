@@ -1,0 +1,54 @@
+-- What an input is answered, and what stands in every lent place after it: the contracts equate a call to these definitions.
+-- Definitions only; rests on plan_text's reading of the query and the rules' outcome of a call.
+use mathlib.Core.Bool.{cond}
+use mathlib.Core.List.{List}
+use Prim.Native.Nat.{ℕ}
+use lib.ListN.{length, take, drop}
+use lib.Dec.{leb}
+use Rattle.plan_text.specs.declared.query.QueryRecord.{QueryRecord}
+use Rattle.plan_text.specs.declared.query.FirstRecord.{FirstRecord}
+use Rattle.plan_text.specs.declared.query.FirstRecord.the-variants as first
+use Rattle.plan_text.specs.Query.{readQuery}
+use Rattle.plan_rules.specs.Limits.{maxSceneObjects}
+use Rattle.plan_rules.specs.World.{queryOf}
+use Rattle.plan_rules.specs.Outcome.{Outcome, outcomeOf}
+use Rattle.plan_answer.specs.declared.Printed.{Printed}
+use Rattle.plan_answer.specs.Text.{outcomeText, tapeEnd, noQueryLine, tooLongLine, textFrom}
+
+-- The whole text, the end of the tape (0 without one), and the lent hidden layers, tape, counts and marks.
+-- The end is said for itself: bytes behind the last record add no line, so the text alone does not tell it.
+pub record Reply : Type 0 where
+  pub text : List ℕ
+  pub end : ℕ
+  pub hidden : List ℕ
+  pub tape : List ℕ
+  pub counts : List ℕ
+  pub marks : List ℕ
+
+-- what a call answered and left
+abbrev pub reply : Printed → List ℕ → List ℕ → List ℕ → List ℕ → Reply
+reply r h o k m = record { text = textFrom r o 0; end = tapeEnd r; hidden = h; tape = o; counts = k; marks = m }
+
+abbrev pub replyOfOutcome : Outcome → List ℕ → Reply
+replyOfOutcome c h = record { text = outcomeText c; end = c .tapeLength; hidden = h; tape = c .out; counts = c .counts; marks = c .marks }
+
+-- "reads one query .. and then the sheet"
+unfoldable pub replyOfQuery : List ℕ → QueryRecord → List ℕ → List ℕ → List ℕ → List ℕ → Reply
+replyOfQuery s q h o k m = replyOfOutcome (outcomeOf (drop (q .sheet) s) (queryOf (q .options) (take (q .hidden) h) maxSceneObjects) o k m) h
+
+-- a line, and nothing touched but the hidden layers
+abbrev pub replyLine : List ℕ → List ℕ → List ℕ → List ℕ → List ℕ → Reply
+replyLine line h o k m = record { text = line; end = 0; hidden = h; tape = o; counts = k; marks = m }
+
+-- by what the input begins with, and the hidden layers that were read
+abbrev pub replyOfFirst : List ℕ → FirstRecord × List ℕ → List ℕ → List ℕ → List ℕ → Reply
+replyOfFirst s (first.Query q, h) o k m = replyOfQuery s q h o k m
+replyOfFirst s (first.NoQuery, h) o k m = replyLine noQueryLine h o k m
+replyOfFirst s (first.TooLong, h) o k m = replyLine tooLongLine h o k m
+
+unfoldable pub replyOf : List ℕ → List ℕ → List ℕ → List ℕ → List ℕ → Reply
+replyOf s h o k m = replyOfFirst s (readQuery s h) o k m
+
+-- an input that was read into a buffer: "Input beyond the program's buffers .. prints `too long` before all else"
+unfoldable pub replyOfRead : List ℕ → ℕ → List ℕ → List ℕ → List ℕ → List ℕ → Reply
+replyOfRead b size h o k m = cond (leb (length b) size) (replyLine tooLongLine h o k m) (replyOf (take size b) h o k m)

@@ -1,0 +1,119 @@
+-- Whole calls, computed from bytes: document 01's worked example, an empty sheet, and a refusal of each number from 8 to 12.
+-- Assumes nothing.
+use mathlib.Core.Path.{_≡_, refl}
+use mathlib.Core.Bool.{true}
+use mathlib.Core.List.{List, [], _∷_, _++_}
+use Prim.Native.Nat.{ℕ}
+use lib.ListN.{replicate}
+use lib.Ieee.{Float, neg}
+use Rattle.geometry.specs.declared.bbox.WorldBBox.{WorldBBox}
+use Rattle.geometry.specs.Bbox.{bbox}
+use Rattle.abstract_sheet.specs.Sheet.{sheetOf}
+use Rattle.abstract_sheet.specs.Examples.{workedText, workedCell, workedSheet}
+use Rattle.plan_rules.specs.declared.Answer.the-variants.{Planned, Refused}
+use Rattle.plan_rules.specs.Limits.{maxSceneObjects}
+use Rattle.plan_rules.specs.World.{Query, World}
+use Rattle.plan_rules.specs.Tape.{noTag, onTape}
+use Rattle.plan_rules.specs.Outcome.{Outcome, outcome, freshPlan, outcomeOf}
+use Rattle.plan_rules.proofs.Cases.Opened.{opened}
+use Rattle.plan_rules.proofs.Cases.OpenedSheet.{openedSheet}
+use Rattle.plan_rules.proofs.Cases.Samples.{whole, page, viewing}
+
+-- lent: output of so many bytes of 7, 4 counts of 8, 5 marks of 9
+abbrev call : List ℕ → Query → ℕ → Outcome
+call sheet q room = outcomeOf sheet q (replicate room 7) (replicate 4 8) (replicate 5 9)
+
+-- "view 0, 0, 100, 100, zoom 1, depth 1"
+abbrev workedQuery : Query
+workedQuery = viewing (page 100 100) (whole 1) 1 maxSceneObjects
+
+-- "text 0 4024000000000000 4034000000000000"
+abbrev textBytes : List ℕ
+textBytes = 26 ∷ 0 ∷ 0 ∷ 0 ∷ 12 ∷ 0 ∷ 0 ∷ 0 ∷ 0 ∷ 0 ∷ 0 ∷ 0 ∷ 0 ∷ 0 ∷ 0 ∷ 0 ∷ 0x24 ∷ 0x40 ∷ 0 ∷ 0 ∷ 0 ∷ 0 ∷ 0 ∷ 0 ∷ 0x34 ∷ 0x40 ∷ []
+
+-- "totals 1 1 0 0 0 0"
+abbrev totalsBytes : ℕ → ℕ → List ℕ
+totalsBytes cells objects = (54 ∷ 0 ∷ 0 ∷ 0 ∷ 15 ∷ 0 ∷ cells ∷ 0 ∷ 0 ∷ 0 ∷ 0 ∷ 0 ∷ 0 ∷ 0 ∷ objects ∷ 0 ∷ 0 ∷ 0 ∷ 0 ∷ 0 ∷ 0 ∷ 0 ∷ []) ++ replicate 32 0
+
+-- one cell at depth 1: 1 count and 3 marks are named, and left zero
+pub worked : call workedSheet workedQuery 82 ≡ outcome (Planned 80) (textBytes ++ totalsBytes 1 1 ++ (7 ∷ 7 ∷ [])) (0 ∷ 8 ∷ 8 ∷ 8 ∷ []) (0 ∷ 0 ∷ 0 ∷ 9 ∷ 9 ∷ [])
+unfolding workedText workedCell workedSheet opened openedSheet
+worked = refl
+
+-- "An empty sheet gives totals only."
+pub empty-sheet : call [] workedQuery 55 ≡ outcome (Planned 54) (totalsBytes 0 0 ++ (7 ∷ [])) (replicate 4 8) (replicate 5 9)
+unfolding opened openedSheet
+empty-sheet = refl
+
+-- ---- refusals
+
+-- "Number 12 zeroes the whole output. It and an accepted plan leave the named scratch places zero and the rest as lent"
+pub no-room : call workedSheet workedQuery 79 ≡ outcome (Refused 12 0) (replicate 79 0) (0 ∷ 8 ∷ 8 ∷ 8 ∷ []) (0 ∷ 0 ∷ 0 ∷ 9 ∷ 9 ∷ [])
+unfolding workedText workedCell workedSheet opened openedSheet
+no-room = refl
+
+-- just enough
+pub exact-room : (call workedSheet workedQuery 80) .number ≡ 0
+unfolding workedText workedCell workedSheet opened openedSheet
+exact-room = refl
+
+-- "Numbers 1 to 11 touch no memory."
+abbrev untouched : ℕ → ℕ → Outcome
+untouched number offset = outcome (Refused number offset) (replicate 82 7) (replicate 4 8) (replicate 5 9)
+
+-- a record of 5 bytes at the end: 2, with its offset, before any question about the query
+pub broken-record : call (workedSheet ++ (6 ∷ 0 ∷ 0 ∷ 0 ∷ 1 ∷ [])) (viewing (page 100 100) (whole 0) 33 maxSceneObjects) 82 ≡ untouched 2 86
+unfolding workedText workedCell workedSheet opened openedSheet
+broken-record = refl
+
+-- each of these queries has the next fault too: the first no is given
+pub view-turned : call workedSheet (viewing (bbox (whole 1) (whole 0) (whole 0) (whole 1)) (whole 0) 33 maxSceneObjects) 82 ≡ untouched 8 0
+unfolding workedText workedCell workedSheet opened openedSheet
+view-turned = refl
+
+pub no-zoom : call workedSheet (viewing (page 100 100) (whole 0) 33 maxSceneObjects) 82 ≡ untouched 9 0
+unfolding workedText workedCell workedSheet opened openedSheet
+no-zoom = refl
+
+pub negative-zoom : call workedSheet (viewing (page 100 100) (neg (whole 1)) 33 maxSceneObjects) 82 ≡ untouched 9 0
+unfolding workedText workedCell workedSheet opened openedSheet
+negative-zoom = refl
+
+pub too-deep : call workedSheet (viewing (page 100 100) (whole 1) 33 maxSceneObjects) 82 ≡ untouched 10 0
+unfolding workedText workedCell workedSheet opened openedSheet
+too-deep = refl
+
+-- depth 32 is asked for the scratch: 32 counts are wanted
+pub depth-32 : call workedSheet (viewing (page 100 100) (whole 1) 32 maxSceneObjects) 82 ≡ untouched 11 0
+unfolding workedText workedCell workedSheet opened openedSheet
+depth-32 = refl
+
+-- depth 4: 4 counts are there, 6 marks are not
+pub few-marks : call workedSheet (viewing (page 100 100) (whole 1) 4 maxSceneObjects) 82 ≡ untouched 11 0
+unfolding workedText workedCell workedSheet opened openedSheet
+few-marks = refl
+
+-- depth 3: 3 counts and 5 marks are just enough
+pub enough-scratch : (call workedSheet (viewing (page 100 100) (whole 1) 3 maxSceneObjects) 82) .number ≡ 0
+unfolding workedText workedCell workedSheet opened openedSheet
+enough-scratch = refl
+
+-- "Depth 0 gives just one proxy if the root has a box that overlaps the view": 42 and 54 bytes, and no count is named
+pub depth-0 : (call workedSheet (viewing (page 100 100) (whole 1) 0 maxSceneObjects) 96) .tapeLength ≡ 96
+unfolding workedText workedCell workedSheet opened openedSheet
+depth-0 = refl
+
+-- ---- the run that writes, on the same calls
+
+abbrev writing : ℕ → World (List ℕ)
+writing room = freshPlan noTag onTape (sheetOf workedSheet) 1 workedQuery tt (replicate room 7)
+
+-- its tape's end is the tape's length, and its output the same
+pub writes : ((writing 82) .state .«tape_end» ≡ 80) × ((writing 82) .out ≡ textBytes ++ totalsBytes 1 1 ++ (7 ∷ 7 ∷ []))
+unfolding workedText workedCell workedSheet opened openedSheet
+writes = (refl, refl)
+
+-- a record that does not fit whole is not written, and the end says so
+pub writes-what-fits : ((writing 79) .state .«tape_end» ≡ 80) × ((writing 79) .out ≡ textBytes ++ replicate 53 7)
+unfolding workedText workedCell workedSheet opened openedSheet
+writes-what-fits = (refl, refl)

@@ -1,0 +1,87 @@
+-- ONE INDUCTION over the rules, for every statement that two runs agree, that something is kept, or that what an event says is so:
+-- a relation R between what two runs sent their events to, which each event keeps, is kept by every visit (a simulation).
+-- This file has the relation between worlds and what it keeps; `Simulation.Premises` what a rule knows when it speaks; `Simulation.Visits` the induction.
+-- Assumes nothing.
+pub mod Premises
+pub mod Visits
+use mathlib.Core.Path.{_≡_, refl}
+use mathlib.Core.Bool.{Bool, true, false, not, cond}
+use mathlib.Core.List.{List}
+use Prim.Native.Nat.{ℕ, zero, suc, _+_, _<_}
+use native.Mathlib.Omega.{arith}
+use lib.Dec.{T as Yes}
+use Rattle.records.specs.declared.PreparedSource.{PreparedSource}
+use Rattle.records.specs.declared.PreparedSource.the-variants.{Geometry, Text, Node, Reference, Cell}
+use Rattle.plan_rules.specs.declared.ScenePlan.{ScenePlan}
+use Rattle.plan_rules.specs.World.{World, world, Flow, go, halt, bind, ending, each}
+
+-- only a node's visit may halt: "`visit_source` returns false only for a node that met a limit"
+abbrev pub IsNode : PreparedSource → Type 0
+IsNode (Geometry n) = ⊥
+IsNode (Text n) = ⊥
+IsNode (Node n) = Unit {0}
+IsNode (Reference n) = ⊥
+IsNode (Cell n) = ⊥
+
+-- ---- related worlds: the same state and scratch, and R between what the events were sent to
+
+pub data Related {A B : Type 0} (R : ScenePlan → A → B → Type 0) : World A → World B → Type 0 where
+  related : {s : ScenePlan} {a : A} {b : B} {m k : List ℕ} → R s a b → Related R (world s a m k) (world s b m k)
+
+pub data RelatedFlow {A B : Type 0} (R : ScenePlan → A → B → Type 0) : Flow A → Flow B → Type 0 where
+  goes : {w : World A} {v : World B} → Related R w v → RelatedFlow R (go w) (go v)
+  halts : {w : World A} {v : World B} → Related R w v → RelatedFlow R (halt w) (halt v)
+
+-- the flow of a source's visit: only a node's halts
+pub data RelatedSource {A B : Type 0} (R : ScenePlan → A → B → Type 0) (x : PreparedSource) : Flow A → Flow B → Type 0 where
+  source-goes : {w : World A} {v : World B} → Related R w v → RelatedSource R x (go w) (go v)
+  source-halts : {w : World A} {v : World B} → IsNode x → Related R w v → RelatedSource R x (halt w) (halt v)
+
+module _ {A B : Type 0} (R : ScenePlan → A → B → Type 0) where
+  pub the-relation : {w : World A} {v : World B} → Related R w v → R (w .state) (w .out) (v .out)
+  the-relation (related r) = r
+
+  pub same-state : {w : World A} {v : World B} → Related R w v → w .state ≡ v .state
+  same-state (related r) = refl
+
+  -- ---- what two steps keep
+
+  abbrev pub Keeps : (World A → World A) → (World B → World B) → Type 0
+  Keeps f g = (s : ScenePlan) (a : A) (b : B) (m k : List ℕ) → R s a b → Related R (f (world s a m k)) (g (world s b m k))
+
+  abbrev pub KeepsFlow : (World A → Flow A) → (World B → Flow B) → Type 0
+  KeepsFlow f g = (s : ScenePlan) (a : A) (b : B) (m k : List ℕ) → R s a b → RelatedFlow R (f (world s a m k)) (g (world s b m k))
+
+  abbrev pub KeepsSource : PreparedSource → (World A → Flow A) → (World B → Flow B) → Type 0
+  KeepsSource x f g = (s : ScenePlan) (a : A) (b : B) (m k : List ℕ) → R s a b → RelatedSource R x (f (world s a m k)) (g (world s b m k))
+
+  pub apply-sim : {w : World A} {v : World B} (f : World A → World A) (g : World B → World B) → Keeps f g → Related R w v → Related R (f w) (g v)
+  apply-sim f g h (related {s} {a} {b} {m} {k} r) = h s a b m k r
+
+  pub apply-flow-sim : {w : World A} {v : World B} (f : World A → Flow A) (g : World B → Flow B) → KeepsFlow f g → Related R w v → RelatedFlow R (f w) (g v)
+  apply-flow-sim f g h (related {s} {a} {b} {m} {k} r) = h s a b m k r
+
+  pub cond-sim : (t : Bool) {w w′ : World A} {v v′ : World B} → (Yes t → Related R w v) → (Yes (not t) → Related R w′ v′) → Related R (cond t w w′) (cond t v v′)
+  cond-sim true h g = h tt
+  cond-sim false h g = g tt
+
+  pub cond-flow-sim : (t : Bool) {w w′ : Flow A} {v v′ : Flow B} → (Yes t → RelatedFlow R w v) → (Yes (not t) → RelatedFlow R w′ v′) → RelatedFlow R (cond t w w′) (cond t v v′)
+  cond-flow-sim true h g = h tt
+  cond-flow-sim false h g = g tt
+
+  pub bind-sim : {x : Flow A} {y : Flow B} (f : World A → Flow A) (g : World B → Flow B) → KeepsFlow f g → RelatedFlow R x y → RelatedFlow R (bind x f) (bind y g)
+  bind-sim f g k (goes h) = apply-flow-sim f g k h
+  bind-sim f g k (halts h) = halts h
+
+  pub ending-sim : {x : Flow A} {y : Flow B} → RelatedFlow R x y → Related R (ending x) (ending y)
+  ending-sim (goes h) = h
+  ending-sim (halts h) = h
+
+  -- a loop over all places of a list
+  each-from-sim : (f : ℕ → World A → Flow A) (g : ℕ → World B → Flow B) (count : ℕ) → ((i : ℕ) → i < count → KeepsFlow (f i) (g i)) → (n i : ℕ) → i + n ≡ count → KeepsFlow (each f n i) (each g n i)
+  unfolding each
+  each-from-sim f g count h zero i e s a b m k r = goes (related r)
+  each-from-sim f g count h (suc n) i e s a b m k r = bind-sim (each f n (i + 1)) (each g n (i + 1)) (each-from-sim f g count h n (i + 1) (omega arith)) (h i (omega arith) s a b m k r)
+
+  pub each-sim : (f : ℕ → World A → Flow A) (g : ℕ → World B → Flow B) (count : ℕ) → ((i : ℕ) → i < count → KeepsFlow (f i) (g i)) → KeepsFlow (each f count 0) (each g count 0)
+  each-sim f g count h = each-from-sim f g count h count 0 (omega arith)

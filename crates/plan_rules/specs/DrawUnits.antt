@@ -1,0 +1,92 @@
+-- Draw units: `reference_draw_units`, `source_draw_units` and `cell_draw_units` of bevy_scene.rs, over the lent marks and counts.
+-- Document 01: "Draw units follow `cell_draw_units`, whose remembered counts are consulted first, even where an open circle made them."
+-- One function recurses, on the depth: depth falls by one from a reference to its source.
+-- Definitions only; rests on the abstract sheet, `Event` (saturation) and `Scratch`.
+use mathlib.Core.Bool.{cond}
+use mathlib.Core.List.{List}
+use mathlib.Core.Option.{Option, none, some}
+use Prim.Native.Nat.{ℕ, zero, suc, _+_, _*_, max}
+use lib.ListN.{getD, set}
+use lib.Dec.{leb, eqb}
+use Rattle.geometry.specs.Grid.{gridCount}
+use Rattle.records.specs.declared.PreparedSource.{PreparedSource}
+use Rattle.records.specs.declared.PreparedSource.the-variants.{Geometry, Text, Node, Reference, Cell}
+use Rattle.records.specs.declared.PreparedReference.{PreparedReference}
+use Rattle.abstract_sheet.specs.Sheet.{CellRecord, Sheet}
+use Rattle.plan_rules.specs.Event.{saturate}
+use Rattle.plan_rules.specs.Scratch.{countingPlace, rememberedPlace, countPlace, isMarked}
+
+-- a count, and the marks and the counts after it
+pub record Units : Type 0 where
+  pub units : ℕ
+  pub marks : List ℕ
+  pub counts : List ℕ
+
+abbrev pub counted : ℕ → List ℕ → List ℕ → Units
+counted n m k = record { units = n; marks = m; counts = k }
+
+-- `count.saturating_mul(source_count.max(1))`
+abbrev pub scaled : ℕ → Units → Units
+scaled count u = counted (saturate (count * max (u .units) 1)) (u .marks) (u .counts)
+
+-- `iter().fold(..)`: a step for each of `count` numbers from i on
+unfoldable pub fold : (ℕ → Units → Units) → ℕ → ℕ → Units → Units
+fold step zero i u = u
+fold step (suc count) i u = fold step count (i + 1) (step i u)
+
+abbrev pub CountReference : Type 0
+CountReference = ℕ → List ℕ → List ℕ → Units
+
+abbrev pub CountSource : Type 0
+CountSource = PreparedSource → List ℕ → List ℕ → Units
+
+-- `reference_draw_units` at a depth, given how its source is counted at the depth below. (A number that names no reference counts 0; no sheet that passes question 7 has one.)
+unfoldable pub referenceDrawUnitsWith : ℕ → CountSource → Option PreparedReference → List ℕ → List ℕ → Units
+referenceDrawUnitsWith depth deeper none m k = counted 0 m k
+referenceDrawUnitsWith depth deeper (some r) m k =
+    cond (eqb (gridCount (r .grid)) 0) (counted 0 m k)
+    (cond (leb depth 1) (scaled (gridCount (r .grid)) (counted 1 m k))
+    (scaled (gridCount (r .grid)) (deeper (r .source) m k)))
+
+-- `count.saturating_add(self.reference_draw_units(reference, depth))`
+unfoldable pub addReferenceUnits : CountReference → CellRecord → ℕ → Units → Units
+addReferenceUnits visit c i u =
+    let v = visit (c .references .at i) (u .marks) (u .counts) in
+    counted (saturate (u .units + v .units)) (v .marks) (v .counts)
+
+module _ (S : Sheet) (cells : ℕ) where
+  -- the cell leaves `complexity_stack`, and its count enters `complexity_cache`
+  unfoldable pub remember : ℕ → ℕ → Units → Units
+  remember depth n u =
+      counted (u .units)
+      (set (set (u .marks) (countingPlace cells n) 0) (rememberedPlace cells depth n) 1)
+      (set (u .counts) (countPlace cells depth n) (u .units))
+
+  -- `cell_draw_units` at a depth, given how a reference is counted at this depth. A missing cell counts 1 in every case, and has no place in the scratch.
+  -- Depth 0 is asked first, since it has no layer: the Rust asks the cache first, which never holds depth 0.
+  unfoldable pub cellDrawUnitsWith : ℕ → CountReference → ℕ → Option CellRecord → List ℕ → List ℕ → Units
+  cellDrawUnitsWith depth visit n none m k = counted 1 m k
+  cellDrawUnitsWith depth visit n (some c) m k =
+      cond (eqb depth 0) (counted 1 m k)
+      (cond (isMarked m (rememberedPlace cells depth n)) (counted (getD k (countPlace cells depth n) 0) m k)
+      (cond (isMarked m (countingPlace cells n)) (counted 1 m k)
+      (remember depth n (fold (addReferenceUnits visit c) (c .references .count) 0 (counted (c .«direct_draw_units») (set m (countingPlace cells n) 1) k)))))
+
+  -- `source_draw_units`, given how a reference is counted at this depth
+  unfoldable pub sourceDrawUnitsWith : ℕ → CountReference → CountSource
+  sourceDrawUnitsWith depth visit (Geometry n) m k = counted 1 m k
+  sourceDrawUnitsWith depth visit (Text n) m k = counted 1 m k
+  sourceDrawUnitsWith depth visit (Node n) m k = counted 1 m k
+  sourceDrawUnitsWith depth visit (Reference n) m k = visit n m k
+  sourceDrawUnitsWith depth visit (Cell n) m k = cellDrawUnitsWith depth visit n (S .cell n) m k
+
+  -- The three counts. At depth 0 a reference asks no source: its depth is at most 1.
+  unfoldable pub referenceDrawUnits : ℕ → CountReference
+  referenceDrawUnits zero n m k = referenceDrawUnitsWith 0 (λ s m k. counted 1 m k) (S .reference n) m k
+  referenceDrawUnits (suc depth) n m k = referenceDrawUnitsWith (suc depth) (sourceDrawUnitsWith depth (referenceDrawUnits depth)) (S .reference n) m k
+
+  unfoldable pub sourceDrawUnits : ℕ → CountSource
+  sourceDrawUnits depth = sourceDrawUnitsWith depth (referenceDrawUnits depth)
+
+  unfoldable pub cellDrawUnits : ℕ → CountReference
+  cellDrawUnits depth n m k = cellDrawUnitsWith depth (referenceDrawUnits depth) n (S .cell n) m k
