@@ -142,11 +142,11 @@ module _ (S : Sheet) (cells : ℕ) (q : Query) where
   abbrev counts : List ℕ
   counts = replicate (countsNamed cells (q .depth)) 0
 
-  events-tape : tape (events S cells q marks counts) ≡ tapeOf S cells q
+  events-tape : tape (events S cells q counts marks) ≡ tapeOf S cells q
   unfolding tapeOf freshPlan
   events-tape =
-      paths-tape ((plan enter note S cells q [] (world emptyPlan [] marks counts)) .out)
-      ∙ the-relation SameTape (plan-sim enter noTag note note S cells q SameTape (λ d t s p. Unit {0}) (λ t e. Unit {0}) (no-premises enter S q) keeps [] tt (λ u. tt) tt emptyPlan [] [] marks counts refl)
+      paths-tape ((plan enter note S cells q [] (world emptyPlan [] counts marks)) .out)
+      ∙ the-relation SameTape (plan-sim enter noTag note note S cells q SameTape (λ d t s p. Unit {0}) (λ t e. Unit {0}) (no-premises enter S q) keeps [] tt (λ u. tt) tt emptyPlan [] [] counts marks refl)
 
 -- ---- the call
 
@@ -161,11 +161,11 @@ demand-3 s q o k m square true-boxes view zoom e = by (checkSheet s) refl (sheet
         let p = sound-passed S (c .cells) q o k m e in
         let t = events-tape S (c .cells) q in
         let d = p .depth in (
-          events S (c .cells) q (marks S (c .cells) q) (counts S (c .cells) q),
+          events S (c .cells) q (counts S (c .cells) q) (marks S (c .cells) q),
           record {
-            ran = ap (λ (c : Counts). events S (c .cells) q (marks S (c .cells) q) (counts S (c .cells) q)) (sound-counts s c h);
+            ran = ap (λ (c : Counts). events S (c .cells) q (counts S (c .cells) q) (marks S (c .cells) q)) (sound-counts s c h);
             tapeLength = ap (λ (x : Outcome). x .tapeLength) (p .planned) ∙ ap length (sym t);
             out = ap (λ (x : Outcome). x .out) (p .planned) ∙ ap (λ (b : List ℕ). b ++ drop (length b) o) (sym t);
           },
-          demand-3-of-rules S square true-boxes (valid-few s (sound-valid s c h)) q (record { view = view; zoom = record { positive = p .zoom; most = zoom }; depth = omega arith }) (c .cells) (marks S (c .cells) q) (counts S (c .cells) q),
+          demand-3-of-rules S square true-boxes (valid-few s (sound-valid s c h)) q (record { view = view; zoom = record { positive = p .zoom; most = zoom }; depth = omega arith }) (c .cells) (counts S (c .cells) q) (marks S (c .cells) q),
         )

@@ -27,8 +27,8 @@ covers S q p h t e (by-skip r z k) s = in-skipped r (skipped-fact S q t e s k) (
 covers S q p h t e (by-limit {t = u} x y r z late) s = follows x y r (s .1) late (sym z ∙ back-path u (member x y ∷ r))
 
 pub demand-3-of-rules : Demand3OfRules
-demand-3-of-rules S square true-boxes few q brought cells marks counts =
-    let begin : World Tagged = world emptyPlan [] marks counts in
+demand-3-of-rules S square true-boxes few q brought cells counts marks =
+    let begin : World Tagged = world emptyPlan [] counts marks in
     let tagged : Tagged = (plan enter note S cells q [] begin) .out in
     let facts = plan-facts S q (brought .zoom) few square cells (brought .depth) begin refl in
     record {
@@ -36,7 +36,7 @@ demand-3-of-rules S square true-boxes few q brought cells marks counts =
           paths-any (λ (x : Path × Event). Covers S q p h (x .0) (x .1)) tagged
           (any-map _ (λ x k. covers S q p h (x .0) (x .1) (k .0) (k .1)) (any-all (plan-claims S cells q (brought .view) few square true-boxes (brought .depth) p h leads v shown begin) facts));
       listed = paths-all (λ (x : Path × Event). IsRecord (x .1) → ListsItsPath S q (x .0) (x .1)) tagged (all-map _ (λ x s. listed-fact S q (x .0) (x .1) s) facts);
-      once = no-path-twice tagged (plan-once S cells q marks counts);
+      once = no-path-twice tagged (plan-once S cells q counts marks);
       dropped = plan-drops-when-full S cells q marks counts;
       skipped = paths-all (λ (x : Path × Event). IsSkip (x .1) → Skipped S q (x .0) (x .1)) tagged (all-map _ (λ x s. skipped-fact S q (x .0) (x .1) s) facts);
       limits = paths-all (λ (x : Path × Event). x .1 ≡ nodeGridLimit → MeetsLimit S q (x .0)) tagged (all-map _ (λ x s. limit-fact S q (x .0) (x .1) s) facts);

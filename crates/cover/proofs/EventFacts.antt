@@ -194,4 +194,4 @@ module _ (S : Sheet) (q : Query) where
     plan-facts cells d w e =
         the-relation AllSay (plan-sim enter (λ s t. tt) note silent S cells q AllSay Stands EventFact premises keeps [] tt (λ u. tt)
         (record { level = 0; exact = identity; room = omega arith; led = start; is = identity-exact; near = identity-level })
-        (w .state) (w .out) tt (w .marks) (w .counts) (subst (λ (l : Tagged). AllSay (w .state) l tt) (sym e) none-left))
+        (w .state) (w .out) tt (w .counts) (w .marks) (subst (λ (l : Tagged). AllSay (w .state) l tt) (sym e) none-left))

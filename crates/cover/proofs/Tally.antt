@@ -91,9 +91,9 @@ keeps t nodeGridLimit s room l h = other t nodeGridLimit s l refl refl h
 keeps t detailCell s room l h = other t detailCell s l refl refl h
 keeps t (totals u) s room l h = other t (totals u) s l refl refl h
 
-plan-tally : (S : Sheet) (cells : ℕ) (q : Query) (m k : List ℕ) → let w = plan enter note S cells q [] (world emptyPlan [] m k) in Tally (w .state) (w .out)
+plan-tally : (S : Sheet) (cells : ℕ) (q : Query) (k m : List ℕ) → let w = plan enter note S cells q [] (world emptyPlan [] k m) in Tally (w .state) (w .out)
 unfolding emptyPlan
-plan-tally S cells q m k = plan-kept enter note S cells q Tally keeps [] (world emptyPlan [] m k) (record { proxies = refl; most = omega arith; full = tt })
+plan-tally S cells q k m = plan-kept enter note S cells q Tally keeps [] (world emptyPlan [] k m) (record { proxies = refl; most = omega arith; full = tt })
 
 -- ---- by paths
 
@@ -101,5 +101,5 @@ with-paths : (l : Tagged) → TaggedDroppedWhenFull l → DroppedWhenFull (withP
 with-paths [] h = tt
 with-paths (x ∷ l) h = (λ label box e. paths-proxies l ∙ h .0 label box e, with-paths l (h .1))
 
-pub plan-drops-when-full : (S : Sheet) (cells : ℕ) (q : Query) (m k : List ℕ) → DroppedWhenFull (withPaths ((plan enter note S cells q [] (world emptyPlan [] m k)) .out))
-plan-drops-when-full S cells q m k = with-paths ((plan enter note S cells q [] (world emptyPlan [] m k)) .out) ((plan-tally S cells q m k) .full)
+pub plan-drops-when-full : (S : Sheet) (cells : ℕ) (q : Query) (k m : List ℕ) → DroppedWhenFull (withPaths ((plan enter note S cells q [] (world emptyPlan [] k m)) .out))
+plan-drops-when-full S cells q k m = with-paths ((plan enter note S cells q [] (world emptyPlan [] k m)) .out) ((plan-tally S cells q k m) .full)

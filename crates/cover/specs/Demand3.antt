@@ -54,7 +54,7 @@ pub record Brought (q : Query) : Type 0 where
 
 -- whatever stands in the lent marks and counts
 abbrev pub Demand3OfRules : Type 0
-Demand3OfRules = (S : Sheet) → Square S → TrueBoxes S → FewMembers S → (q : Query) → Brought q → (cells : ℕ) (marks counts : List ℕ) → LosesNothing S q (events S cells q marks counts)
+Demand3OfRules = (S : Sheet) → Square S → TrueBoxes S → FewMembers S → (q : Query) → Brought q → (cells : ℕ) (counts marks : List ℕ) → LosesNothing S q (events S cells q counts marks)
 
 -- ---- of a call
 
@@ -62,7 +62,7 @@ Demand3OfRules = (S : Sheet) → Square S → TrueBoxes S → FewMembers S → (
 abbrev pub eventsOf : List ℕ → Query → Trace
 eventsOf sheet q =
     let cells = countsOf sheet .cells in
-    events (sheetOf sheet) cells q (replicate (marksNamed cells (q .depth)) 0) (replicate (countsNamed cells (q .depth)) 0)
+    events (sheetOf sheet) cells q (replicate (countsNamed cells (q .depth)) 0) (replicate (marksNamed cells (q .depth)) 0)
 
 -- The trace is that of the rules, and the output is its records, totals last, and then what was lent. The records alone would leave open the events that
 -- are not written: a limit or a dropped proxy could be invented.

@@ -32,7 +32,7 @@ withPaths (x ∷ l) = (pathOf (x .0), x .1) ∷ withPaths l
 
 -- the events of the plan of a sheet with so many cells, whatever stands in the lent marks and counts
 abbrev pub events : Sheet → ℕ → Query → List ℕ → List ℕ → Trace
-events S cells q marks counts = withPaths ((plan enter note S cells q [] (world emptyPlan [] marks counts)) .out)
+events S cells q counts marks = withPaths ((plan enter note S cells q [] (world emptyPlan [] counts marks)) .out)
 
 -- ---- every event, some event
 

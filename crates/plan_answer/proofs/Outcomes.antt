@@ -73,7 +73,7 @@ tape-ends l s = omega (arith, length-append (tape l) (encode (totals s)), length
 tape-not-empty : (S : Sheet) (cells : ℕ) (q : Query) → 0 < length (tapeOf S cells q)
 unfolding tapeOf freshPlan plan say
 tape-not-empty S cells q =
-    let v = visitRoot noTag note S cells q (q .depth) tt (world emptyPlan [] (replicate (marksNamed cells (q .depth)) 0) (replicate (countsNamed cells (q .depth)) 0)) in
+    let v = visitRoot noTag note S cells q (q .depth) tt (world emptyPlan [] (replicate (countsNamed cells (q .depth)) 0) (replicate (marksNamed cells (q .depth)) 0)) in
     tape-ends (v .out) (v .state)
 
 -- ---- outcomes

@@ -48,10 +48,10 @@ module _ {P A : Type 0} (enter : Step → P → P) (emit : P → Event → ℕ �
   both ta tb e ok s room a b r = keeps ta e s room a r
 
   one : (f : World A → World A) (g : World (Unit {0}) → World (Unit {0})) → Keeps R f g → (w : World A) → Holds w → Holds (f w)
-  one f g k w h = the-relation R (k (w .state) (w .out) tt (w .marks) (w .counts) h)
+  one f g k w h = the-relation R (k (w .state) (w .out) tt (w .counts) (w .marks) h)
 
   oneFlow : (f : World A → Flow A) (g : World (Unit {0}) → Flow (Unit {0})) → KeepsFlow R f g → (w : World A) → Holds w → Holds (ending (f w))
-  oneFlow f g k w h = the-relation R (ending-sim R (k (w .state) (w .out) tt (w .marks) (w .counts) h))
+  oneFlow f g k w h = the-relation R (ending-sim R (k (w .state) (w .out) tt (w .counts) (w .marks) h))
 
   abbrev visits : ℕ → VisitReference enter emit S cells q
   visits d = visitReference enter emit S cells q d

@@ -26,7 +26,7 @@ IsNode (Cell n) = ⊥
 -- ---- related worlds: the same state and scratch, and R between what the events were sent to
 
 pub data Related {A B : Type 0} (R : ScenePlan → A → B → Type 0) : World A → World B → Type 0 where
-  related : {s : ScenePlan} {a : A} {b : B} {m k : List ℕ} → R s a b → Related R (world s a m k) (world s b m k)
+  related : {s : ScenePlan} {a : A} {b : B} {k m : List ℕ} → R s a b → Related R (world s a k m) (world s b k m)
 
 pub data RelatedFlow {A B : Type 0} (R : ScenePlan → A → B → Type 0) : Flow A → Flow B → Type 0 where
   goes : {w : World A} {v : World B} → Related R w v → RelatedFlow R (go w) (go v)
@@ -47,19 +47,19 @@ module _ {A B : Type 0} (R : ScenePlan → A → B → Type 0) where
   -- ---- what two steps keep
 
   abbrev pub Keeps : (World A → World A) → (World B → World B) → Type 0
-  Keeps f g = (s : ScenePlan) (a : A) (b : B) (m k : List ℕ) → R s a b → Related R (f (world s a m k)) (g (world s b m k))
+  Keeps f g = (s : ScenePlan) (a : A) (b : B) (k m : List ℕ) → R s a b → Related R (f (world s a k m)) (g (world s b k m))
 
   abbrev pub KeepsFlow : (World A → Flow A) → (World B → Flow B) → Type 0
-  KeepsFlow f g = (s : ScenePlan) (a : A) (b : B) (m k : List ℕ) → R s a b → RelatedFlow R (f (world s a m k)) (g (world s b m k))
+  KeepsFlow f g = (s : ScenePlan) (a : A) (b : B) (k m : List ℕ) → R s a b → RelatedFlow R (f (world s a k m)) (g (world s b k m))
 
   abbrev pub KeepsSource : PreparedSource → (World A → Flow A) → (World B → Flow B) → Type 0
-  KeepsSource x f g = (s : ScenePlan) (a : A) (b : B) (m k : List ℕ) → R s a b → RelatedSource R x (f (world s a m k)) (g (world s b m k))
+  KeepsSource x f g = (s : ScenePlan) (a : A) (b : B) (k m : List ℕ) → R s a b → RelatedSource R x (f (world s a k m)) (g (world s b k m))
 
   pub apply-sim : {w : World A} {v : World B} (f : World A → World A) (g : World B → World B) → Keeps f g → Related R w v → Related R (f w) (g v)
-  apply-sim f g h (related {s} {a} {b} {m} {k} r) = h s a b m k r
+  apply-sim f g h (related {s} {a} {b} {m} {k} r) = h s a b k m r
 
   pub apply-flow-sim : {w : World A} {v : World B} (f : World A → Flow A) (g : World B → Flow B) → KeepsFlow f g → Related R w v → RelatedFlow R (f w) (g v)
-  apply-flow-sim f g h (related {s} {a} {b} {m} {k} r) = h s a b m k r
+  apply-flow-sim f g h (related {s} {a} {b} {m} {k} r) = h s a b k m r
 
   pub cond-sim : (t : Bool) {w w′ : World A} {v v′ : World B} → (Yes t → Related R w v) → (Yes (not t) → Related R w′ v′) → Related R (cond t w w′) (cond t v v′)
   cond-sim true h g = h tt
@@ -80,8 +80,8 @@ module _ {A B : Type 0} (R : ScenePlan → A → B → Type 0) where
   -- a loop over all places of a list
   each-from-sim : (f : ℕ → World A → Flow A) (g : ℕ → World B → Flow B) (count : ℕ) → ((i : ℕ) → i < count → KeepsFlow (f i) (g i)) → (n i : ℕ) → i + n ≡ count → KeepsFlow (each f n i) (each g n i)
   unfolding each
-  each-from-sim f g count h zero i e s a b m k r = goes (related r)
-  each-from-sim f g count h (suc n) i e s a b m k r = bind-sim (each f n (i + 1)) (each g n (i + 1)) (each-from-sim f g count h n (i + 1) (omega arith)) (h i (omega arith) s a b m k r)
+  each-from-sim f g count h zero i e s a b k m r = goes (related r)
+  each-from-sim f g count h (suc n) i e s a b k m r = bind-sim (each f n (i + 1)) (each g n (i + 1)) (each-from-sim f g count h n (i + 1) (omega arith)) (h i (omega arith) s a b k m r)
 
   pub each-sim : (f : ℕ → World A → Flow A) (g : ℕ → World B → Flow B) (count : ℕ) → ((i : ℕ) → i < count → KeepsFlow (f i) (g i)) → KeepsFlow (each f count 0) (each g count 0)
   each-sim f g count h = each-from-sim f g count h count 0 (omega arith)

@@ -103,24 +103,24 @@ module _ {P : Type 0} (o : List ℕ) where
       encoded : (t : List ℕ) (e : Event) → sets o 0 (t ++ recordBytes (fieldsOf e)) ≡ sets o 0 (t ++ encode e)
       encoded t e = unfold encode in refl
 
-  pub one-run : (enter : Step → P → P) (S : Sheet) (cells : ℕ) (q : Query) (t : P) (m k : List ℕ) → Related Run (plan enter note S cells q t (world emptyPlan [] m k)) (plan noTag onTape S cells q tt (world emptyPlan o m k))
+  pub one-run : (enter : Step → P → P) (S : Sheet) (cells : ℕ) (q : Query) (t : P) (k m : List ℕ) → Related Run (plan enter note S cells q t (world emptyPlan [] k m)) (plan noTag onTape S cells q tt (world emptyPlan o k m))
   unfolding emptyPlan saturate
-  one-run enter S cells q t m k =
-      plan-sim enter noTag note onTape S cells q Run (λ d t s p. Unit {0}) (λ t e. Unit {0}) (no-premises enter S q) keeps t tt (λ u. tt) tt emptyPlan [] o m k
+  one-run enter S cells q t k m =
+      plan-sim enter noTag note onTape S cells q Run (λ d t s p. Unit {0}) (λ t e. Unit {0}) (no-premises enter S q) keeps t tt (λ u. tt) tt emptyPlan [] o k m
       (record { ends = refl; same-length = refl; written = λ small fits. refl })
 
 -- ---- the theorem, for the events with any tag
 
-module _ {P : Type 0} (enter : Step → P → P) (S : Sheet) (cells : ℕ) (q : Query) (t : P) (o m k : List ℕ) where
+module _ {P : Type 0} (enter : Step → P → P) (S : Sheet) (cells : ℕ) (q : Query) (t : P) (o k m : List ℕ) where
   -- the events, and the run that writes
   abbrev events : List (P × Event)
-  events = (plan enter note S cells q t (world emptyPlan [] m k)) .out
+  events = (plan enter note S cells q t (world emptyPlan [] k m)) .out
 
   abbrev run : World (List ℕ)
-  run = plan noTag onTape S cells q tt (world emptyPlan o m k)
+  run = plan noTag onTape S cells q tt (world emptyPlan o k m)
 
   pub tape-end : run .state .«tape_end» ≡ saturate (length (tape events))
-  tape-end = ap (λ (s : ScenePlan). s .«tape_end») (sym (same-state (Run o) (one-run {P = P} o enter S cells q t m k))) ∙ the-relation (Run o) (one-run {P = P} o enter S cells q t m k) .ends
+  tape-end = ap (λ (s : ScenePlan). s .«tape_end») (sym (same-state (Run o) (one-run {P = P} o enter S cells q t k m))) ∙ the-relation (Run o) (one-run {P = P} o enter S cells q t k m) .ends
 
   -- the end decides whether the tape fits (a slice is shorter than 2^64 − 1 bytes)
   pub fits-by-end : length o < maxTotal → run .state .«tape_end» ≤ length o → length (tape events) ≤ length o
@@ -138,15 +138,15 @@ module _ {P : Type 0} (enter : Step → P → P) (S : Sheet) (cells : ℕ) (q : 
   pub the-tape : length o < maxTotal → length (tape events) ≤ length o
       → (run .state .«tape_end» ≡ length (tape events)) × (run .out ≡ tape events ++ drop (length (tape events)) o)
   the-tape small fits =
-      let r = the-relation (Run o) (one-run {P = P} o enter S cells q t m k) in (
+      let r = the-relation (Run o) (one-run {P = P} o enter S cells q t k m) in (
         below-stop (run .state .«tape_end») (length (tape events)) tape-end (omega arith),
         r .written small fits ∙ sets-eq (tape events) o 0 (subst (λ (n : ℕ). n ≤ length o) (sym (zero-add (length (tape events)))) fits) ∙ ap (λ (n : ℕ). tape events ++ drop n o) (zero-add (length (tape events))),
       )
 
   -- "15 totals, last"
-  pub totals-last : let v = visitRoot enter note S cells q (q .depth) t (world emptyPlan [] m k) in tape events ≡ tape (v .out) ++ encode (totals (v .state))
+  pub totals-last : let v = visitRoot enter note S cells q (q .depth) t (world emptyPlan [] k m) in tape events ≡ tape (v .out) ++ encode (totals (v .state))
   unfolding plan say
   totals-last = refl
 
   pub same-output-length : length (run .out) ≡ length o
-  same-output-length = the-relation (Run o) (one-run {P = P} o enter S cells q t m k) .same-length
+  same-output-length = the-relation (Run o) (one-run {P = P} o enter S cells q t k m) .same-length

@@ -19,15 +19,15 @@ use Rattle.plan_rules.specs.Scratch.{countingPlace, rememberedPlace, cou
 -- a count, and the marks and the counts after it
 pub record Units : Type 0 where
   pub units : ℕ
-  pub marks : List ℕ
   pub counts : List ℕ
+  pub marks : List ℕ
 
 abbrev pub counted : ℕ → List ℕ → List ℕ → Units
-counted n m k = record { units = n; marks = m; counts = k }
+counted n k m = record { units = n; counts = k; marks = m }
 
 -- `count.saturating_mul(source_count.max(1))`
 abbrev pub scaled : ℕ → Units → Units
-scaled count u = counted (saturate (count * max (u .units) 1)) (u .marks) (u .counts)
+scaled count u = counted (saturate (count * max (u .units) 1)) (u .counts) (u .marks)
 
 -- `iter().fold(..)`: a step for each of `count` numbers from i on
 unfoldable pub fold : (ℕ → Units → Units) → ℕ → ℕ → Units → Units
@@ -42,51 +42,51 @@ CountSource = PreparedSource → List ℕ → List ℕ → Units
 
 -- `reference_draw_units` at a depth, given how its source is counted at the depth below. (A number that names no reference counts 0; no sheet that passes question 7 has one.)
 unfoldable pub referenceDrawUnitsWith : ℕ → CountSource → Option PreparedReference → List ℕ → List ℕ → Units
-referenceDrawUnitsWith depth deeper none m k = counted 0 m k
-referenceDrawUnitsWith depth deeper (some r) m k =
-    cond (eqb (gridCount (r .grid)) 0) (counted 0 m k)
-    (cond (leb depth 1) (scaled (gridCount (r .grid)) (counted 1 m k))
-    (scaled (gridCount (r .grid)) (deeper (r .source) m k)))
+referenceDrawUnitsWith depth deeper none k m = counted 0 k m
+referenceDrawUnitsWith depth deeper (some r) k m =
+    cond (eqb (gridCount (r .grid)) 0) (counted 0 k m)
+    (cond (leb depth 1) (scaled (gridCount (r .grid)) (counted 1 k m))
+    (scaled (gridCount (r .grid)) (deeper (r .source) k m)))
 
 -- `count.saturating_add(self.reference_draw_units(reference, depth))`
 unfoldable pub addReferenceUnits : CountReference → CellRecord → ℕ → Units → Units
 addReferenceUnits visit c i u =
-    let v = visit (c .references .at i) (u .marks) (u .counts) in
-    counted (saturate (u .units + v .units)) (v .marks) (v .counts)
+    let v = visit (c .references .at i) (u .counts) (u .marks) in
+    counted (saturate (u .units + v .units)) (v .counts) (v .marks)
 
 module _ (S : Sheet) (cells : ℕ) where
   -- the cell leaves `complexity_stack`, and its count enters `complexity_cache`
   unfoldable pub remember : ℕ → ℕ → Units → Units
   remember depth n u =
       counted (u .units)
-      (set (set (u .marks) (countingPlace cells n) 0) (rememberedPlace cells depth n) 1)
       (set (u .counts) (countPlace cells depth n) (u .units))
+      (set (set (u .marks) (countingPlace cells n) 0) (rememberedPlace cells depth n) 1)
 
   -- `cell_draw_units` at a depth, given how a reference is counted at this depth. A missing cell counts 1 in every case, and has no place in the scratch.
   -- Depth 0 is asked first, since it has no layer: the Rust asks the cache first, which never holds depth 0.
   unfoldable pub cellDrawUnitsWith : ℕ → CountReference → ℕ → Option CellRecord → List ℕ → List ℕ → Units
-  cellDrawUnitsWith depth visit n none m k = counted 1 m k
-  cellDrawUnitsWith depth visit n (some c) m k =
-      cond (eqb depth 0) (counted 1 m k)
-      (cond (isMarked m (rememberedPlace cells depth n)) (counted (getD k (countPlace cells depth n) 0) m k)
-      (cond (isMarked m (countingPlace cells n)) (counted 1 m k)
-      (remember depth n (fold (addReferenceUnits visit c) (c .references .count) 0 (counted (c .«direct_draw_units») (set m (countingPlace cells n) 1) k)))))
+  cellDrawUnitsWith depth visit n none k m = counted 1 k m
+  cellDrawUnitsWith depth visit n (some c) k m =
+      cond (eqb depth 0) (counted 1 k m)
+      (cond (isMarked m (rememberedPlace cells depth n)) (counted (getD k (countPlace cells depth n) 0) k m)
+      (cond (isMarked m (countingPlace cells n)) (counted 1 k m)
+      (remember depth n (fold (addReferenceUnits visit c) (c .references .count) 0 (counted (c .«direct_draw_units») k (set m (countingPlace cells n) 1))))))
 
   -- `source_draw_units`, given how a reference is counted at this depth
   unfoldable pub sourceDrawUnitsWith : ℕ → CountReference → CountSource
-  sourceDrawUnitsWith depth visit (Geometry n) m k = counted 1 m k
-  sourceDrawUnitsWith depth visit (Text n) m k = counted 1 m k
-  sourceDrawUnitsWith depth visit (Node n) m k = counted 1 m k
-  sourceDrawUnitsWith depth visit (Reference n) m k = visit n m k
-  sourceDrawUnitsWith depth visit (Cell n) m k = cellDrawUnitsWith depth visit n (S .cell n) m k
+  sourceDrawUnitsWith depth visit (Geometry n) k m = counted 1 k m
+  sourceDrawUnitsWith depth visit (Text n) k m = counted 1 k m
+  sourceDrawUnitsWith depth visit (Node n) k m = counted 1 k m
+  sourceDrawUnitsWith depth visit (Reference n) k m = visit n k m
+  sourceDrawUnitsWith depth visit (Cell n) k m = cellDrawUnitsWith depth visit n (S .cell n) k m
 
   -- The three counts. At depth 0 a reference asks no source: its depth is at most 1.
   unfoldable pub referenceDrawUnits : ℕ → CountReference
-  referenceDrawUnits zero n m k = referenceDrawUnitsWith 0 (λ s m k. counted 1 m k) (S .reference n) m k
-  referenceDrawUnits (suc depth) n m k = referenceDrawUnitsWith (suc depth) (sourceDrawUnitsWith depth (referenceDrawUnits depth)) (S .reference n) m k
+  referenceDrawUnits zero n k m = referenceDrawUnitsWith 0 (λ s k m. counted 1 k m) (S .reference n) k m
+  referenceDrawUnits (suc depth) n k m = referenceDrawUnitsWith (suc depth) (sourceDrawUnitsWith depth (referenceDrawUnits depth)) (S .reference n) k m
 
   unfoldable pub sourceDrawUnits : ℕ → CountSource
   sourceDrawUnits depth = sourceDrawUnitsWith depth (referenceDrawUnits depth)
 
   unfoldable pub cellDrawUnits : ℕ → CountReference
-  cellDrawUnits depth n m k = cellDrawUnitsWith depth (referenceDrawUnits depth) n (S .cell n) m k
+  cellDrawUnits depth n k m = cellDrawUnitsWith depth (referenceDrawUnits depth) n (S .cell n) k m

@@ -67,7 +67,7 @@ zoomOk z = isFinite z && lt (fin false 0 (pos 0)) z
 -- the plan, for any tag and any end
 unfoldable pub freshPlan : {P A : Type 0} → (Step → P → P) → (P → Event → ℕ → A → A) → Sheet → ℕ → Query → P → A → World A
 freshPlan enter emit S cells q t o =
-    plan enter emit S cells q t (world emptyPlan o (replicate (marksNamed cells (q .depth)) 0) (replicate (countsNamed cells (q .depth)) 0))
+    plan enter emit S cells q t (world emptyPlan o (replicate (countsNamed cells (q .depth)) 0) (replicate (marksNamed cells (q .depth)) 0))
 
 -- the records in order, totals last
 unfoldable pub tapeOf : Sheet → ℕ → Query → List ℕ

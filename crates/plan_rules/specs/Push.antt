@@ -28,7 +28,7 @@ noLabel = 0xffff_ffff
 module _ {P A : Type 0} (enter : Step → P → P) (emit : P → Event → ℕ → A → A) where
   -- an event, sent on with the tape's end
   unfoldable pub say : P → Event → World A → World A
-  say t e w = world (after e (w .state)) (emit t e (w .state .«tape_end») (w .out)) (w .marks) (w .counts)
+  say t e w = world (after e (w .state)) (emit t e (w .state .«tape_end») (w .out)) (w .counts) (w .marks)
 
   -- `add_load`
   unfoldable pub addLoad : P → ℕ → WorldBBox → World A → World A

@@ -61,7 +61,7 @@ module _ {P A : Type 0} (enter : Step → P → P) (emit : P → Event → ℕ �
 
   -- the scratch as a count leaves it
   abbrev pub withScratch : Units → World A → World A
-  withScratch u w = world (w .state) (w .out) (u .marks) (u .counts)
+  withScratch u w = world (w .state) (w .out) (u .counts) (u .marks)
 
   module _ (S : Sheet) (cells : ℕ) (q : Query) where
     abbrev pub VisitReference : Type 0
@@ -156,7 +156,7 @@ module _ {P A : Type 0} (enter : Step → P → P) (emit : P → Event → ℕ �
         cond (not (overlaps worldBox (q .view))) (say enter emit t culledReference w)
         (cond (detailCellsFull (w .state)) (addLoad enter emit t (label (r .source)) worldBox w)
         (cond (detailBudgetExhausted q (w .state)) (addLoad enter emit t (label (r .source)) worldBox w)
-        (visitCountedReference visit depth t r p sourceBox worldBox (referenceDrawUnits S cells depth n (w .marks) (w .counts)) w)))
+        (visitCountedReference visit depth t r p sourceBox worldBox (referenceDrawUnits S cells depth n (w .counts) (w .marks)) w)))
 
     -- `let Some(source_bbox) = reference.source_bbox else { return; }`
     unfoldable pub visitSourcedReference : VisitSource → ℕ → P → ℕ → PreparedReference → Placement → Bounds → World A → World A

@@ -50,8 +50,8 @@ detailBudgetExhausted q s = leb (q .objectLimit) (s .«detail_objects») || leb 
 pub record World (A : Type 0) : Type 0 where
   pub state : ScenePlan
   pub out : A
-  pub marks : List ℕ
   pub counts : List ℕ
+  pub marks : List ℕ
 
 -- a visit goes on, or is over: the Rust's early `return`, and the `true` or `false` of `push_node` and `visit_source`
 pub data Flow (A : Type 0) : Type 0 where
@@ -60,7 +60,7 @@ pub data Flow (A : Type 0) : Type 0 where
 
 module _ {A : Type 0} where
   abbrev pub world : ScenePlan → A → List ℕ → List ℕ → World A
-  world s o m k = record { state = s; out = o; marks = m; counts = k }
+  world s o k m = record { state = s; out = o; counts = k; marks = m }
 
   -- a flow by the `bool` that the code returns beside its world
   abbrev pub flow : Bool → World A → Flow A
@@ -82,4 +82,4 @@ module _ {A : Type 0} where
   each step (suc count) i w = bind (step i w) (each step count (i + 1))
 
   abbrev pub setMark : ℕ → ℕ → World A → World A
-  setMark place value w = world (w .state) (w .out) (set (w .marks) place value) (w .counts)
+  setMark place value w = world (w .state) (w .out) (w .counts) (set (w .marks) place value)

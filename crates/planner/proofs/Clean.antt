@@ -13,15 +13,15 @@ use Rattle.plan_rules.specs.Tape.{noTag, onTape}
 use Rattle.planner.specs.Swept.{visited, swept}
 
 -- Places as lent, zeroed (₁), as the visits leave them (₂), and zeroed again (₃).
-module _ (S : Sheet) (cells : ℕ) (q : Query) (o m k : List ℕ) where
+module _ (S : Sheet) (cells : ℕ) (q : Query) (o k m : List ℕ) where
   zeroed-again : (l l₂ : List ℕ) {l₃ : List ℕ} → length l₂ ≡ length l → l₃ ≡ replicate (length l₂) 0 → l₃ ≡ replicate (length l) 0
   zeroed-again l l₂ kept zeroed = zeroed ∙ ap (λ (n : ℕ). replicate n 0) kept
 
   pub clean : (e s : ScenePlan) (b m₁ m₂ m₃ k₁ k₂ k₃ : List ℕ)
       → k₁ ≡ replicate (length k) 0 → m₁ ≡ replicate (length m) 0 → e ≡ emptyPlan
-      → (visits : world s b m₂ k₂ ≡ visitRoot noTag onTape S cells q (q .depth) tt (world e o m₁ k₁))
+      → (visits : world s b k₂ m₂ ≡ visitRoot noTag onTape S cells q (q .depth) tt (world e o k₁ m₁))
       → length k₂ ≡ length k → length m₂ ≡ length m → k₃ ≡ replicate (length k₂) 0 → m₃ ≡ replicate (length m₂) 0
-      → world s b m₃ k₃ ≡ swept S cells q o (length m) (length k)
+      → world s b m₃ k₃ ≡ swept S cells q o (length k) (length m)
   unfolding swept visited
   clean e s b m₁ m₂ m₃ k₁ k₂ k₃ zeroed-k zeroed-m empty visits kept-k kept-m again-k again-m =
       let end-m = zeroed-again m m₂ kept-m again-m in

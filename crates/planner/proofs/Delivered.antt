@@ -33,7 +33,7 @@ module _ (S : Sheet) (cells : ℕ) (q : Query) (o k m : List ℕ) where
 
   -- the run that writes, and the scratch zeroed after it
   abbrev ended : World (List ℕ)
-  ended = world (written S cells q o k m .state) (written S cells q o k m .out) (zeroed nm m) (zeroed nk k)
+  ended = world (written S cells q o k m .state) (written S cells q o k m .out) (zeroed nk k) (zeroed nm m)
 
   same-output : length (written S cells q o k m .out) ≡ length o
   unfolding freshPlan
@@ -47,14 +47,14 @@ module _ (S : Sheet) (cells : ℕ) (q : Query) (o k m : List ℕ) where
       (outcome (Refused 12 0) (replicate n 0) (zeroed nk k) (zeroed nm m))) same-output
 
   -- `visited`: what the visits left of the plan and the output. `finished`: the contract of `finish`.
-  pub call-delivered : (length o < maxTotal) → (s : ScenePlan) (b m₁ k₁ : List ℕ)
-      → (visited : world s b m₁ k₁ ≡ visitRoot noTag onTape S cells q (q .depth) tt (world emptyPlan o (replicate nm 0) (replicate nk 0)))
-      → (a : Answer) (b₁ : List ℕ) → (finished : (m k : List ℕ) → outcome a b₁ k m ≡ answered (say noTag onTape tt (totals s) (world s b m k)))
+  pub call-delivered : (length o < maxTotal) → (s : ScenePlan) (b k₁ m₁ : List ℕ)
+      → (visited : world s b k₁ m₁ ≡ visitRoot noTag onTape S cells q (q .depth) tt (world emptyPlan o (replicate nm 0) (replicate nk 0)))
+      → (a : Answer) (b₁ : List ℕ) → (finished : (k m : List ℕ) → outcome a b₁ k m ≡ answered (say noTag onTape tt (totals s) (world s b k m)))
       → outcome a b₁ (zeroed nk k) (zeroed nm m) ≡ delivered (tapeOf S cells q) nk nm o k m
   unfolding freshPlan plan say
-  call-delivered small s b m₁ k₁ visited a b₁ finished =
-      finished (zeroed nm m) (zeroed nk k)
-      ∙ ap (λ (v : World (List ℕ)). answered (say noTag onTape tt (totals (v .state)) (world (v .state) (v .out) (zeroed nm m) (zeroed nk k)))) visited
+  call-delivered small s b k₁ m₁ visited a b₁ finished =
+      finished (zeroed nk k) (zeroed nm m)
+      ∙ ap (λ (v : World (List ℕ)). answered (say noTag onTape tt (totals (v .state)) (world (v .state) (v .out) (zeroed nk k) (zeroed nm m)))) visited
       ∙ answered-is-written
       ∙ sym (delivered-is-written S cells q o k m small)
 
@@ -63,14 +63,14 @@ module _ (S : Sheet) (cells : ℕ) (q : Query) (o k m : List ℕ) where
     abbrev left : World (List ℕ)
     left = visited S cells q o nm nk
 
-    pub sweep-delivered : (length o < maxTotal) → (s : ScenePlan) (b m₁ k₁ : List ℕ)
-        → (ran : world s b m₁ k₁ ≡ swept S cells q o (length (take um m)) (length (take uk k)))
-        → (a : Answer) (b₁ : List ℕ) → (finished : (m k : List ℕ) → outcome a b₁ k m ≡ answered (say noTag onTape tt (totals s) (world s b m k)))
+    pub sweep-delivered : (length o < maxTotal) → (s : ScenePlan) (b k₁ m₁ : List ℕ)
+        → (ran : world s b k₁ m₁ ≡ swept S cells q o (length (take uk k)) (length (take um m)))
+        → (a : Answer) (b₁ : List ℕ) → (finished : (k m : List ℕ) → outcome a b₁ k m ≡ answered (say noTag onTape tt (totals s) (world s b k m)))
         → outcome a b₁ (k₁ ++ drop uk k) (m₁ ++ drop um m) ≡ delivered (tapeOf S cells q) nk nm o k m
     unfolding swept visited zeroed
-    sweep-delivered small s b m₁ k₁ ran a b₁ finished =
+    sweep-delivered small s b k₁ m₁ ran a b₁ finished =
         let marks-named = length-take-le um m marks-lent ∙ marks-used in
         let counts-named = length-take-le uk k counts-lent ∙ counts-used in
-        let w : world s b m₁ k₁ ≡ swept S cells q o nm nk = ran ∙ (λ i. swept S cells q o (marks-named i) (counts-named i)) in
+        let w : world s b k₁ m₁ ≡ swept S cells q o nm nk = ran ∙ (λ i. swept S cells q o (marks-named i) (counts-named i)) in
         (λ i. outcome a b₁ (w i .counts ++ drop (counts-used i) k) (w i .marks ++ drop (marks-used i) m))
-        ∙ call-delivered small s b (left .marks) (left .counts) (λ i. world (w i .state) (w i .out) (left .marks) (left .counts)) a b₁ finished
+        ∙ call-delivered small s b (left .counts) (left .marks) (λ i. world (w i .state) (w i .out) (left .counts) (left .marks)) a b₁ finished

@@ -11,9 +11,9 @@ use Rattle.plan_rules.specs.Tape.{noTag, onTape}
 
 -- what the visits leave, from an empty plan and that many zeroed marks and counts
 unfoldable pub visited : Sheet → ℕ → Query → List ℕ → ℕ → ℕ → World (List ℕ)
-visited S cells q o marks counts = visitRoot noTag onTape S cells q (q .depth) tt (world emptyPlan o (replicate marks 0) (replicate counts 0))
+visited S cells q o counts marks = visitRoot noTag onTape S cells q (q .depth) tt (world emptyPlan o (replicate counts 0) (replicate marks 0))
 
 unfoldable pub swept : Sheet → ℕ → Query → List ℕ → ℕ → ℕ → World (List ℕ)
-swept S cells q o marks counts =
-    let w = visited S cells q o marks counts in
-    world (w .state) (w .out) (replicate marks 0) (replicate counts 0)
+swept S cells q o counts marks =
+    let w = visited S cells q o counts marks in
+    world (w .state) (w .out) (replicate counts 0) (replicate marks 0)

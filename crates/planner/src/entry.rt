@@ -34,7 +34,7 @@ fn visit_clean(
     counts: &mut [u64],
     marks: &mut [u8],
 ) -> ScenePlan
-    ensures { λ r. ⌜ world r (now (out .exit)) (now (marks .exit)) (now (counts .exit)) ≡ swept (sheetOf (now (sheet .entry))) cells (queryOf query (now (hidden .entry)) «object_limit») (now (out .entry)) (length (now (marks .entry))) (length (now (counts .entry))) ⌝ }
+    ensures { λ r. ⌜ world r (now (out .exit)) (now (counts .exit)) (now (marks .exit)) ≡ swept (sheetOf (now (sheet .entry))) cells (queryOf query (now (hidden .entry)) «object_limit») (now (out .entry)) (length (now (counts .entry))) (length (now (marks .entry))) ⌝ }
 {
     tape::clear_counts(counts);
     tape::clear_bytes(marks);

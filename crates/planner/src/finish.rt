@@ -13,7 +13,7 @@ ghost use Rattle.planner.specs.Answered.{answered};
 
 // Question 12, "Does the whole tape fit the lent output?" Records that do not fit were not written, but the tape's end counts them.
 pub fn finish(out: &mut [u8], plan: ScenePlan) -> Answer
-    ensures { λ r. ⌜ ((m k : List ℕ) → outcome r (now (out .exit)) k m ≡ answered (say noTag onTape tt (totals plan) (world plan (now (out .entry)) m k))) ⌝ }
+    ensures { λ r. ⌜ ((k m : List ℕ) → outcome r (now (out .exit)) k m ≡ answered (say noTag onTape tt (totals plan) (world plan (now (out .entry)) k m))) ⌝ }
 {
     let whole = pushes::list_totals(out, plan);
     if whole.tape_end <= out.len() as u64 {

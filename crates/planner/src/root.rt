@@ -15,7 +15,7 @@ ghost use Rattle.plan_rules.specs.Tape.{noTag, onTape};
 
 // "Depth 0 gives just one proxy if the root has a box that overlaps the view."
 fn load_root(sheet: &[u8], query: SceneOptions, out: &mut [u8], plan: ScenePlan) -> ScenePlan
-    ensures { λ r. ⌜ ((cells limit : ℕ) (hidden m k : List ℕ) → world r (now (out .exit)) m k ≡ visitRoot noTag onTape (sheetOf (now (sheet .entry))) cells (queryOf query hidden limit) 0 tt (world plan (now (out .entry)) m k)) ⌝ }
+    ensures { λ r. ⌜ ((cells limit : ℕ) (hidden k m : List ℕ) → world r (now (out .exit)) k m ≡ visitRoot noTag onTape (sheetOf (now (sheet .entry))) cells (queryOf query hidden limit) 0 tt (world plan (now (out .entry)) k m)) ⌝ }
 {
     let Found::At(at) = walk::find(sheet, 5, query.root) else {
         return plan;
@@ -43,7 +43,7 @@ pub fn visit_root(
     marks: &mut [u8],
     plan: ScenePlan,
 ) -> ScenePlan
-    ensures { λ r. ⌜ world r (now (out .exit)) (now (marks .exit)) (now (counts .exit)) ≡ visitRoot noTag onTape (sheetOf (now (sheet .entry))) cells (queryOf query (now (hidden .entry)) «object_limit») (query .depth) tt (world plan (now (out .entry)) (now (marks .entry)) (now (counts .entry))) ⌝ }
+    ensures { λ r. ⌜ world r (now (out .exit)) (now (counts .exit)) (now (marks .exit)) ≡ visitRoot noTag onTape (sheetOf (now (sheet .entry))) cells (queryOf query (now (hidden .entry)) «object_limit») (query .depth) tt (world plan (now (out .entry)) (now (counts .entry)) (now (marks .entry))) ⌝ }
 {
     if query.depth == 0 {
         return load_root(sheet, query, out, plan);

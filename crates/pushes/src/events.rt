@@ -27,7 +27,7 @@ fn saturating_add(a: u64, b: u64) -> u64
 // ---- listed
 
 pub fn list_batch(out: &mut [u8], plan: ScenePlan, number: u32, placement: Placement) -> ScenePlan
-    ensures { λ r. ⌜ ((m k : List ℕ) → world r (now (out .exit)) m k ≡ say noTag onTape tt (batch number placement) (world plan (now (out .entry)) m k)) ⌝ }
+    ensures { λ r. ⌜ ((k m : List ℕ) → world r (now (out .exit)) k m ≡ say noTag onTape tt (batch number placement) (world plan (now (out .entry)) k m)) ⌝ }
 {
     tape::write_batch(out, plan.tape_end, number, placement);
     let mut next = plan;
@@ -37,7 +37,7 @@ pub fn list_batch(out: &mut [u8], plan: ScenePlan, number: u32, placement: Place
 }
 
 pub fn list_text(out: &mut [u8], plan: ScenePlan, number: u32, position: DVec2) -> ScenePlan
-    ensures { λ r. ⌜ ((m k : List ℕ) → world r (now (out .exit)) m k ≡ say noTag onTape tt (text number position) (world plan (now (out .entry)) m k)) ⌝ }
+    ensures { λ r. ⌜ ((k m : List ℕ) → world r (now (out .exit)) k m ≡ say noTag onTape tt (text number position) (world plan (now (out .entry)) k m)) ⌝ }
 {
     tape::write_text(out, plan.tape_end, number, position);
     let mut next = plan;
@@ -54,7 +54,7 @@ pub fn list_point(
     node_type: u32,
     position: DVec2,
 ) -> ScenePlan
-    ensures { λ r. ⌜ ((m k : List ℕ) → world r (now (out .exit)) m k ≡ say noTag onTape tt (point layer «node_type» position) (world plan (now (out .entry)) m k)) ⌝ }
+    ensures { λ r. ⌜ ((k m : List ℕ) → world r (now (out .exit)) k m ≡ say noTag onTape tt (point layer «node_type» position) (world plan (now (out .entry)) k m)) ⌝ }
 {
     tape::write_point(out, plan.tape_end, layer, node_type, position);
     let mut next = plan;
@@ -64,7 +64,7 @@ pub fn list_point(
 }
 
 pub fn list_proxy(out: &mut [u8], plan: ScenePlan, label: u32, bbox: WorldBBox) -> ScenePlan
-    ensures { λ r. ⌜ ((m k : List ℕ) → world r (now (out .exit)) m k ≡ say noTag onTape tt (proxy label bbox) (world plan (now (out .entry)) m k)) ⌝ }
+    ensures { λ r. ⌜ ((k m : List ℕ) → world r (now (out .exit)) k m ≡ say noTag onTape tt (proxy label bbox) (world plan (now (out .entry)) k m)) ⌝ }
 {
     tape::write_proxy(out, plan.tape_end, label, bbox);
     let mut next = plan;
@@ -74,7 +74,7 @@ pub fn list_proxy(out: &mut [u8], plan: ScenePlan, label: u32, bbox: WorldBBox) 
 }
 
 pub fn list_totals(out: &mut [u8], plan: ScenePlan) -> ScenePlan
-    ensures { λ r. ⌜ ((m k : List ℕ) → world r (now (out .exit)) m k ≡ say noTag onTape tt (totals plan) (world plan (now (out .entry)) m k)) ⌝ }
+    ensures { λ r. ⌜ ((k m : List ℕ) → world r (now (out .exit)) k m ≡ say noTag onTape tt (totals plan) (world plan (now (out .entry)) k m)) ⌝ }
 {
     tape::write_totals(out, plan.tape_end, plan);
     let mut next = plan;
@@ -85,7 +85,7 @@ pub fn list_totals(out: &mut [u8], plan: ScenePlan) -> ScenePlan
 // ---- counted only
 
 pub fn count_culled_reference(plan: ScenePlan) -> ScenePlan
-    ensures { λ r. ⌜ ((o m k : List ℕ) → world r o m k ≡ say noTag onTape tt culledReference (world plan o m k)) ⌝ }
+    ensures { λ r. ⌜ ((o k m : List ℕ) → world r o k m ≡ say noTag onTape tt culledReference (world plan o k m)) ⌝ }
 {
     let mut next = plan;
     next.culled_references = saturating_add(plan.culled_references, 1);
@@ -93,7 +93,7 @@ pub fn count_culled_reference(plan: ScenePlan) -> ScenePlan
 }
 
 pub fn count_skipped_member(plan: ScenePlan) -> ScenePlan
-    ensures { λ r. ⌜ ((degenerate : Bool) (box : WorldBBox) (o m k : List ℕ) → world r o m k ≡ say noTag onTape tt (skippedMember degenerate box) (world plan o m k)) ⌝ }
+    ensures { λ r. ⌜ ((degenerate : Bool) (box : WorldBBox) (o k m : List ℕ) → world r o k m ≡ say noTag onTape tt (skippedMember degenerate box) (world plan o k m)) ⌝ }
 {
     let mut next = plan;
     next.skipped_subpixel_references = saturating_add(plan.skipped_subpixel_references, 1);
@@ -101,7 +101,7 @@ pub fn count_skipped_member(plan: ScenePlan) -> ScenePlan
 }
 
 pub fn count_culled_batch(plan: ScenePlan) -> ScenePlan
-    ensures { λ r. ⌜ ((o m k : List ℕ) → world r o m k ≡ say noTag onTape tt culledBatch (world plan o m k)) ⌝ }
+    ensures { λ r. ⌜ ((o k m : List ℕ) → world r o k m ≡ say noTag onTape tt culledBatch (world plan o k m)) ⌝ }
 {
     let mut next = plan;
     next.culled_geometry_batches = saturating_add(plan.culled_geometry_batches, 1);
@@ -109,7 +109,7 @@ pub fn count_culled_batch(plan: ScenePlan) -> ScenePlan
 }
 
 pub fn count_skipped_batch(plan: ScenePlan) -> ScenePlan
-    ensures { λ r. ⌜ ((box : WorldBBox) (o m k : List ℕ) → world r o m k ≡ say noTag onTape tt (skippedBatch box) (world plan o m k)) ⌝ }
+    ensures { λ r. ⌜ ((box : WorldBBox) (o k m : List ℕ) → world r o k m ≡ say noTag onTape tt (skippedBatch box) (world plan o k m)) ⌝ }
 {
     let mut next = plan;
     next.skipped_subpixel_geometry_batches = saturating_add(
@@ -120,7 +120,7 @@ pub fn count_skipped_batch(plan: ScenePlan) -> ScenePlan
 }
 
 pub fn count_detail_cell(plan: ScenePlan) -> ScenePlan
-    ensures { λ r. ⌜ ((o m k : List ℕ) → world r o m k ≡ say noTag onTape tt detailCell (world plan o m k)) ⌝ }
+    ensures { λ r. ⌜ ((o k m : List ℕ) → world r o k m ≡ say noTag onTape tt detailCell (world plan o k m)) ⌝ }
 {
     let mut next = plan;
     next.detail_cells = saturating_add(plan.detail_cells, 1);

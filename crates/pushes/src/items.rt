@@ -38,7 +38,7 @@ pub fn push_geometry(
     number: u32,
     transform: Placement,
 ) -> ScenePlan
-    ensures { λ r. ⌜ ((m k : List ℕ) → world r (now (out .exit)) m k ≡ pushGeometry noTag onTape (sheetOf (now (sheet .entry))) (queryOf query (now (hidden .entry)) «object_limit») tt number transform (world plan (now (out .entry)) m k)) ⌝ }
+    ensures { λ r. ⌜ ((k m : List ℕ) → world r (now (out .exit)) k m ≡ pushGeometry noTag onTape (sheetOf (now (sheet .entry))) (queryOf query (now (hidden .entry)) «object_limit») tt number transform (world plan (now (out .entry)) k m)) ⌝ }
 {
     let Found::At(at) = walk::find(sheet, 1, number) else {
         return plan;
@@ -74,7 +74,7 @@ pub fn push_text(
     number: u32,
     transform: Placement,
 ) -> ScenePlan
-    ensures { λ r. ⌜ ((limit : ℕ) (m k : List ℕ) → world r (now (out .exit)) m k ≡ pushText noTag onTape (sheetOf (now (sheet .entry))) (queryOf query (now (hidden .entry)) limit) tt number transform (world plan (now (out .entry)) m k)) ⌝ }
+    ensures { λ r. ⌜ ((limit : ℕ) (k m : List ℕ) → world r (now (out .exit)) k m ≡ pushText noTag onTape (sheetOf (now (sheet .entry))) (queryOf query (now (hidden .entry)) limit) tt number transform (world plan (now (out .entry)) k m)) ⌝ }
 {
     let Found::At(at) = walk::find(sheet, 2, number) else {
         return plan;
@@ -101,7 +101,7 @@ fn push_point(
     transform: Placement,
     i: u32,
 ) -> Visited
-    ensures { λ r. ⌜ ((hidden m k : List ℕ) → flow (r .whole) (world (r .plan) (now (out .exit)) m k) ≡ pushPoint noTag onTape (sheetOf (now (sheet .entry))) (queryOf query hidden «object_limit») tt transform (nodeRecordAt (now (sheet .entry)) at) i (world plan (now (out .entry)) m k)) ⌝ }
+    ensures { λ r. ⌜ ((hidden k m : List ℕ) → flow (r .whole) (world (r .plan) (now (out .exit)) k m) ≡ pushPoint noTag onTape (sheetOf (now (sheet .entry))) (queryOf query hidden «object_limit») tt transform (nodeRecordAt (now (sheet .entry)) at) i (world plan (now (out .entry)) k m)) ⌝ }
 {
     let position = transform.transform_point2(records::node_point_at(sheet, at, i));
     if !point_in_bbox(position, query.view) {
@@ -128,7 +128,7 @@ fn push_points(
     at: usize,
     transform: Placement,
 ) -> Visited
-    ensures { λ r. ⌜ ((hidden m k : List ℕ) → flow (r .whole) (world (r .plan) (now (out .exit)) m k) ≡ each (pushPoint noTag onTape (sheetOf (now (sheet .entry))) (queryOf query hidden «object_limit») tt transform (nodeRecordAt (now (sheet .entry)) at)) (nodeRecordAt (now (sheet .entry)) at .count) 0 (world plan (now (out .entry)) m k)) ⌝ }
+    ensures { λ r. ⌜ ((hidden k m : List ℕ) → flow (r .whole) (world (r .plan) (now (out .exit)) k m) ≡ each (pushPoint noTag onTape (sheetOf (now (sheet .entry))) (queryOf query hidden «object_limit») tt transform (nodeRecordAt (now (sheet .entry)) at)) (nodeRecordAt (now (sheet .entry)) at .count) 0 (world plan (now (out .entry)) k m)) ⌝ }
 {
     let count = records::node_at(sheet, at).points;
     let mut next = plan;
@@ -160,7 +160,7 @@ pub fn push_node(
     number: u32,
     transform: Placement,
 ) -> Visited
-    ensures { λ r. ⌜ ((m k : List ℕ) → flow (r .whole) (world (r .plan) (now (out .exit)) m k) ≡ pushNode noTag onTape (sheetOf (now (sheet .entry))) (queryOf query (now (hidden .entry)) «object_limit») tt number transform (world plan (now (out .entry)) m k)) ⌝ }
+    ensures { λ r. ⌜ ((k m : List ℕ) → flow (r .whole) (world (r .plan) (now (out .exit)) k m) ≡ pushNode noTag onTape (sheetOf (now (sheet .entry))) (queryOf query (now (hidden .entry)) «object_limit») tt number transform (world plan (now (out .entry)) k m)) ⌝ }
 {
     let Found::At(at) = walk::find(sheet, 3, number) else {
         return Visited { plan, whole: true };

@@ -12,7 +12,7 @@ ghost use Rattle.plan_rules.specs.Push.{addLoad, addLoadIfBoxed};
 ghost use Rattle.plan_rules.specs.Tape.{noTag, onTape};
 
 pub fn add_load(out: &mut [u8], plan: ScenePlan, label: u32, bbox: WorldBBox) -> ScenePlan
-    ensures { λ r. ⌜ ((m k : List ℕ) → world r (now (out .exit)) m k ≡ addLoad noTag onTape tt label bbox (world plan (now (out .entry)) m k)) ⌝ }
+    ensures { λ r. ⌜ ((k m : List ℕ) → world r (now (out .exit)) k m ≡ addLoad noTag onTape tt label bbox (world plan (now (out .entry)) k m)) ⌝ }
 {
     if plan.load_proxies < MAX_LOAD_PROXIES {
         return list_proxy(out, plan, label, bbox);
@@ -22,7 +22,7 @@ pub fn add_load(out: &mut [u8], plan: ScenePlan, label: u32, bbox: WorldBBox) ->
 
 // `if let Some(bbox) = world_bbox { self.add_load(bbox, ..) }`
 pub fn add_load_if_boxed(out: &mut [u8], plan: ScenePlan, label: u32, bounds: Bounds) -> ScenePlan
-    ensures { λ r. ⌜ ((m k : List ℕ) → world r (now (out .exit)) m k ≡ addLoadIfBoxed noTag onTape tt label bounds (world plan (now (out .entry)) m k)) ⌝ }
+    ensures { λ r. ⌜ ((k m : List ℕ) → world r (now (out .exit)) k m ≡ addLoadIfBoxed noTag onTape tt label bounds (world plan (now (out .entry)) k m)) ⌝ }
 {
     let Bounds::Box(min_x, min_y, max_x, max_y) = bounds else {
         return plan;

@@ -25,48 +25,48 @@ use Rattle.plan_rules.proofs.Paths.Counts as Paths
 
 -- ---- `reference_draw_units`
 
-module _ (s : List ℕ) (cellCount depth number : ℕ) (m k : List ℕ) where
-  pub reference-missing : find s 4 number ≡ Nothing → counted 0 m k ≡ referenceDrawUnits (sheetOf s) cellCount depth number m k
-  reference-missing e = sym (Paths.units-missing (sheetOf s) cellCount depth number m k (item-read references s number e))
+module _ (s : List ℕ) (cellCount depth number : ℕ) (k m : List ℕ) where
+  pub reference-missing : find s 4 number ≡ Nothing → counted 0 k m ≡ referenceDrawUnits (sheetOf s) cellCount depth number k m
+  reference-missing e = sym (Paths.units-missing (sheetOf s) cellCount depth number k m (item-read references s number e))
 
   module _ (at : ℕ) (found : find s 4 number ≡ At at) (r : PreparedReference) (read : r ≡ referenceAt s at) (count : ℕ) (grid : count ≡ gridCount (r .grid)) where
     here : sheetOf s .reference number ≡ some r
     here = item-read references s number found ∙ ap some (sym read)
 
-    pub reference-empty : count ≡ 0 → counted 0 m k ≡ referenceDrawUnits (sheetOf s) cellCount depth number m k
-    reference-empty h = sym (Paths.units-empty (sheetOf s) cellCount depth number m k r here (eq-eqb _ _ (sym grid ∙ h)))
+    pub reference-empty : count ≡ 0 → counted 0 k m ≡ referenceDrawUnits (sheetOf s) cellCount depth number k m
+    reference-empty h = sym (Paths.units-empty (sheetOf s) cellCount depth number k m r here (eq-eqb _ _ (sym grid ∙ h)))
 
     module _ (members : count ≡ 0 → ⊥) where
-      pub reference-shallow : (units : ℕ) → depth ≤ 1 → units ≡ saturate (count * max 1 1) → counted units m k ≡ referenceDrawUnits (sheetOf s) cellCount depth number m k
+      pub reference-shallow : (units : ℕ) → depth ≤ 1 → units ≡ saturate (count * max 1 1) → counted units k m ≡ referenceDrawUnits (sheetOf s) cellCount depth number k m
       reference-shallow units h e =
-          ap (λ (u : ℕ). counted u m k) (e ∙ ap (λ (g : ℕ). saturate (g * max 1 1)) grid)
-          ∙ sym (Paths.units-shallow (sheetOf s) cellCount depth number m k r here (ne-eqb _ _ (λ z. members (grid ∙ z))) (le-leb _ _ h))
+          ap (λ (u : ℕ). counted u k m) (e ∙ ap (λ (g : ℕ). saturate (g * max 1 1)) grid)
+          ∙ sym (Paths.units-shallow (sheetOf s) cellCount depth number k m r here (ne-eqb _ _ (λ z. members (grid ∙ z))) (le-leb _ _ h))
 
-      pub reference-deep : (sourceCount units : ℕ) (m′ k′ : List ℕ)
+      pub reference-deep : (sourceCount units : ℕ) (k′ m′ : List ℕ)
           → 1 < depth
-          → counted sourceCount m′ k′ ≡ sourceDrawUnits (sheetOf s) cellCount (depth - 1) (r .source) m k
+          → counted sourceCount k′ m′ ≡ sourceDrawUnits (sheetOf s) cellCount (depth - 1) (r .source) k m
           → units ≡ saturate (count * max sourceCount 1)
-          → counted units m′ k′ ≡ referenceDrawUnits (sheetOf s) cellCount depth number m k
-      reference-deep sourceCount units m′ k′ h source e =
-          rw (Paths.units-deep (sheetOf s) cellCount depth number m k r here (ne-eqb _ _ (λ z. members (grid ∙ z))) (lt-leb _ _ h), ← source, ← grid, ← e)
+          → counted units k′ m′ ≡ referenceDrawUnits (sheetOf s) cellCount depth number k m
+      reference-deep sourceCount units k′ m′ h source e =
+          rw (Paths.units-deep (sheetOf s) cellCount depth number k m r here (ne-eqb _ _ (λ z. members (grid ∙ z))) (lt-leb _ _ h), ← source, ← grid, ← e)
 
 -- ---- `source_draw_units`
 
-module _ (s : List ℕ) (cellCount depth : ℕ) (m k : List ℕ) (source : PreparedSource) (n : ℕ) where
-  pub source-geometry : source ≡ Geometry n → counted 1 m k ≡ sourceDrawUnits (sheetOf s) cellCount depth source m k
-  source-geometry e = rw e (sym (Paths.units-geometry (sheetOf s) cellCount depth n m k))
+module _ (s : List ℕ) (cellCount depth : ℕ) (k m : List ℕ) (source : PreparedSource) (n : ℕ) where
+  pub source-geometry : source ≡ Geometry n → counted 1 k m ≡ sourceDrawUnits (sheetOf s) cellCount depth source k m
+  source-geometry e = rw e (sym (Paths.units-geometry (sheetOf s) cellCount depth n k m))
 
-  pub source-text : source ≡ Text n → counted 1 m k ≡ sourceDrawUnits (sheetOf s) cellCount depth source m k
-  source-text e = rw e (sym (Paths.units-text (sheetOf s) cellCount depth n m k))
+  pub source-text : source ≡ Text n → counted 1 k m ≡ sourceDrawUnits (sheetOf s) cellCount depth source k m
+  source-text e = rw e (sym (Paths.units-text (sheetOf s) cellCount depth n k m))
 
-  pub source-node : source ≡ Node n → counted 1 m k ≡ sourceDrawUnits (sheetOf s) cellCount depth source m k
-  source-node e = rw e (sym (Paths.units-node (sheetOf s) cellCount depth n m k))
+  pub source-node : source ≡ Node n → counted 1 k m ≡ sourceDrawUnits (sheetOf s) cellCount depth source k m
+  source-node e = rw e (sym (Paths.units-node (sheetOf s) cellCount depth n k m))
 
-  pub source-reference : source ≡ Reference n → (u : Units) → u ≡ referenceDrawUnits (sheetOf s) cellCount depth n m k → u ≡ sourceDrawUnits (sheetOf s) cellCount depth source m k
-  source-reference e u f = rw e (f ∙ sym (Paths.units-reference (sheetOf s) cellCount depth n m k))
+  pub source-reference : source ≡ Reference n → (u : Units) → u ≡ referenceDrawUnits (sheetOf s) cellCount depth n k m → u ≡ sourceDrawUnits (sheetOf s) cellCount depth source k m
+  source-reference e u f = rw e (f ∙ sym (Paths.units-reference (sheetOf s) cellCount depth n k m))
 
-  pub source-cell : source ≡ Cell n → (u : Units) → u ≡ cellDrawUnits (sheetOf s) cellCount depth n m k → u ≡ sourceDrawUnits (sheetOf s) cellCount depth source m k
-  source-cell e u f = rw e (f ∙ sym (Paths.units-cell (sheetOf s) cellCount depth n m k))
+  pub source-cell : source ≡ Cell n → (u : Units) → u ≡ cellDrawUnits (sheetOf s) cellCount depth n k m → u ≡ sourceDrawUnits (sheetOf s) cellCount depth source k m
+  source-cell e u f = rw e (f ∙ sym (Paths.units-cell (sheetOf s) cellCount depth n k m))
 
 -- ---- `cell_draw_units`
 
@@ -74,49 +74,49 @@ module _ (s : List ℕ) (cellCount depth : ℕ) (m k : List ℕ) (source : Prepa
 abbrev pub addedAt : List ℕ → ℕ → ℕ → ℕ → ℕ → Units → Units
 addedAt s cellCount depth at = addReferenceUnits (referenceDrawUnits (sheetOf s) cellCount depth) (cellRecordAt s at)
 
-pub reference-added : (s : List ℕ) (cellCount depth at i number count more sum : ℕ) (m k m′ k′ : List ℕ)
+pub reference-added : (s : List ℕ) (cellCount depth at i number count more sum : ℕ) (k m k′ m′ : List ℕ)
     → number ≡ cellReferenceAt s at i
-    → counted more m′ k′ ≡ referenceDrawUnits (sheetOf s) cellCount depth number m k
+    → counted more k′ m′ ≡ referenceDrawUnits (sheetOf s) cellCount depth number k m
     → sum ≡ saturate (count + more)
-    → addedAt s cellCount depth at i (counted count m k) ≡ counted sum m′ k′
+    → addedAt s cellCount depth at i (counted count k m) ≡ counted sum k′ m′
 unfolding addReferenceUnits cellRecordAt
-reference-added s cellCount depth at i number count more sum m k m′ k′ e f g = rw (← e, ← f, ← g)
+reference-added s cellCount depth at i number count more sum k m k′ m′ e f g = rw (← e, ← f, ← g)
 
-module _ (s : List ℕ) (cellCount depth cell : ℕ) (m k : List ℕ) where
-  pub cell-missing : find s 5 cell ≡ Nothing → counted 1 m k ≡ cellDrawUnits (sheetOf s) cellCount depth cell m k
-  cell-missing e = sym (Paths.units-cell-missing (sheetOf s) cellCount depth cell m k (item-read cells s cell e))
+module _ (s : List ℕ) (cellCount depth cell : ℕ) (k m : List ℕ) where
+  pub cell-missing : find s 5 cell ≡ Nothing → counted 1 k m ≡ cellDrawUnits (sheetOf s) cellCount depth cell k m
+  cell-missing e = sym (Paths.units-cell-missing (sheetOf s) cellCount depth cell k m (item-read cells s cell e))
 
   module _ (at : ℕ) (found : find s 5 cell ≡ At at) where
-    pub cell-depth-zero : depth ≡ 0 → counted 1 m k ≡ cellDrawUnits (sheetOf s) cellCount depth cell m k
-    cell-depth-zero h = sym (Paths.units-depth-zero (sheetOf s) cellCount depth cell m k (cellRecordAt s at) (item-read cells s cell found) (eq-eqb _ _ h))
+    pub cell-depth-zero : depth ≡ 0 → counted 1 k m ≡ cellDrawUnits (sheetOf s) cellCount depth cell k m
+    cell-depth-zero h = sym (Paths.units-depth-zero (sheetOf s) cellCount depth cell k m (cellRecordAt s at) (item-read cells s cell found) (eq-eqb _ _ h))
 
     module _ (deep : depth ≡ 0 → ⊥) where
       pub cell-remembered : (count : ℕ)
           → isMarked m (rememberedPlace cellCount depth cell) ≡ true
           → count ≡ getD k (countPlace cellCount depth cell) 0
-          → counted count m k ≡ cellDrawUnits (sheetOf s) cellCount depth cell m k
+          → counted count k m ≡ cellDrawUnits (sheetOf s) cellCount depth cell k m
       cell-remembered count h e =
-          ap (λ (u : ℕ). counted u m k) e
-          ∙ sym (Paths.units-remembered (sheetOf s) cellCount depth cell m k (cellRecordAt s at) (item-read cells s cell found) (ne-eqb _ _ deep) h)
+          ap (λ (u : ℕ). counted u k m) e
+          ∙ sym (Paths.units-remembered (sheetOf s) cellCount depth cell k m (cellRecordAt s at) (item-read cells s cell found) (ne-eqb _ _ deep) h)
 
       module _ (fresh : isMarked m (rememberedPlace cellCount depth cell) ≡ false) where
-        pub cell-circle : isMarked m (countingPlace cellCount cell) ≡ true → counted 1 m k ≡ cellDrawUnits (sheetOf s) cellCount depth cell m k
-        cell-circle h = sym (Paths.units-circle (sheetOf s) cellCount depth cell m k (cellRecordAt s at) (item-read cells s cell found) (ne-eqb _ _ deep) fresh h)
+        pub cell-circle : isMarked m (countingPlace cellCount cell) ≡ true → counted 1 k m ≡ cellDrawUnits (sheetOf s) cellCount depth cell k m
+        cell-circle h = sym (Paths.units-circle (sheetOf s) cellCount depth cell k m (cellRecordAt s at) (item-read cells s cell found) (ne-eqb _ _ deep) fresh h)
 
         pub cell-counted : (r : PreparedCell) (count : ℕ) (m₁ m₂ m₃ m₄ k₂ k₄ : List ℕ)
             → isMarked m (countingPlace cellCount cell) ≡ false
             → m₁ ≡ set m (countingPlace cellCount cell) 1
             → r ≡ cellAt s at
-            → fold (addedAt s cellCount depth at) (r .references) 0 (counted (r .«direct_draw_units») m₁ k) ≡ counted count m₂ k₂
+            → fold (addedAt s cellCount depth at) (r .references) 0 (counted (r .«direct_draw_units») k m₁) ≡ counted count k₂ m₂
             → m₃ ≡ set m₂ (countingPlace cellCount cell) 0
             → m₄ ≡ set m₃ (rememberedPlace cellCount depth cell) 1
             → k₄ ≡ set k₂ (countPlace cellCount depth cell) count
-            → counted count m₄ k₄ ≡ cellDrawUnits (sheetOf s) cellCount depth cell m k
+            → counted count m₄ k₄ ≡ cellDrawUnits (sheetOf s) cellCount depth cell k m
         unfolding remember cellRecordAt
         cell-counted r count m₁ m₂ m₃ m₄ k₂ k₄ closed opened read body left remembered stored =
-            let whole : fold (addedAt s cellCount depth at) (cellAt s at .references) 0 (counted (cellAt s at .«direct_draw_units») (set m (countingPlace cellCount cell) 1) k) ≡ counted count m₂ k₂ =
-            ap (λ (x : PreparedCell). fold (addedAt s cellCount depth at) (x .references) 0 (counted (x .«direct_draw_units») (set m (countingPlace cellCount cell) 1) k)) (sym read)
+            let whole : fold (addedAt s cellCount depth at) (cellAt s at .references) 0 (counted (cellAt s at .«direct_draw_units») k (set m (countingPlace cellCount cell) 1)) ≡ counted count k₂ m₂ =
+            ap (λ (x : PreparedCell). fold (addedAt s cellCount depth at) (x .references) 0 (counted (x .«direct_draw_units») k (set m (countingPlace cellCount cell) 1))) (sym read)
             ∙ ap (λ (x : List ℕ). fold (addedAt s cellCount depth at) (r .references) 0 (counted (r .«direct_draw_units») x k)) (sym opened)
             ∙ body in
             rw (remembered, left, stored)
-            (sym (Paths.units-counted (sheetOf s) cellCount depth cell m k (cellRecordAt s at) (item-read cells s cell found) (ne-eqb _ _ deep) fresh closed ∙ ap (remember (sheetOf s) cellCount depth cell) whole))
+            (sym (Paths.units-counted (sheetOf s) cellCount depth cell k m (cellRecordAt s at) (item-read cells s cell found) (ne-eqb _ _ deep) fresh closed ∙ ap (remember (sheetOf s) cellCount depth cell) whole))

@@ -34,7 +34,7 @@ pub fn reference_draw_units(
     number: u32,
     depth: u32,
 ) -> u64
-    ensures { λ r. ⌜ counted r (now (marks .exit)) (now (counts .exit)) ≡ referenceDrawUnits (sheetOf (now (sheet .entry))) cells depth number (now (marks .entry)) (now (counts .entry)) ⌝ }
+    ensures { λ r. ⌜ counted r (now (counts .exit)) (now (marks .exit)) ≡ referenceDrawUnits (sheetOf (now (sheet .entry))) cells depth number (now (counts .entry)) (now (marks .entry)) ⌝ }
 {
     let Found::At(at) = walk::find(sheet, 4, number) else {
         return 0; // no sheet that passes question 7 names such a reference
@@ -60,7 +60,7 @@ pub fn source_draw_units(
     source: PreparedSource,
     depth: u32,
 ) -> u64
-    ensures { λ r. ⌜ counted r (now (marks .exit)) (now (counts .exit)) ≡ sourceDrawUnits (sheetOf (now (sheet .entry))) cells depth source (now (marks .entry)) (now (counts .entry)) ⌝ }
+    ensures { λ r. ⌜ counted r (now (counts .exit)) (now (marks .exit)) ≡ sourceDrawUnits (sheetOf (now (sheet .entry))) cells depth source (now (counts .entry)) (now (marks .entry)) ⌝ }
 {
     match source {
         PreparedSource::Cell(cell) => cell_draw_units(sheet, cells, counts, marks, cell, depth),
@@ -86,7 +86,7 @@ pub fn cell_draw_units(
     cell: u32,
     depth: u32,
 ) -> u64
-    ensures { λ r. ⌜ counted r (now (marks .exit)) (now (counts .exit)) ≡ cellDrawUnits (sheetOf (now (sheet .entry))) cells depth cell (now (marks .entry)) (now (counts .entry)) ⌝ }
+    ensures { λ r. ⌜ counted r (now (counts .exit)) (now (marks .exit)) ≡ cellDrawUnits (sheetOf (now (sheet .entry))) cells depth cell (now (counts .entry)) (now (marks .entry)) ⌝ }
 {
     let Found::At(at) = walk::find(sheet, 5, cell) else {
         return 1; // the sheet lacks the cell

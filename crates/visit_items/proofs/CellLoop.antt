@@ -83,13 +83,13 @@ module _ (L : Loop) (a : Call) where
   turn cells = L .step (sheetOf (a .sheet)) cells (queryOf (a .query) (a .hidden) (a .limit)) (a .cell) (cellRecordAt (a .sheet) (a .at)) (a .transform) (a .bounds)
 
   abbrev pub whole : ℕ → List ℕ → List ℕ → Flow (List ℕ)
-  whole cells m k = each (turn cells) (listed .count) 0 (world (a .plan) (a .out) m k)
+  whole cells k m = each (turn cells) (listed .count) 0 (world (a .plan) (a .out) k m)
 
   -- the invariant: what is left to do from i on is the whole
   pub record Left (out : List ℕ) (plan : ScenePlan) (i : ℕ) : Type 0 where
     pub within : i ≤ a .count
     pub kept : length out ≡ length (a .out)
-    pub left : (cells : ℕ) (m k : List ℕ) → each (turn cells) (a .count - i) i (world plan out m k) ≡ whole cells m k
+    pub left : (cells : ℕ) (k m : List ℕ) → each (turn cells) (a .count - i) i (world plan out k m) ≡ whole cells k m
 
 -- the invariant of a loop, and the number that falls in it, over the code's values
 abbrev pub Inv : Loop → List ℕ → SceneOptions → List ℕ → ℕ → List ℕ → ℕ → ℕ → Placement → Bounds → ℕ → ScenePlan → ℕ → List ℕ → ScenePlan → ℕ → Type 0
@@ -103,36 +103,36 @@ abbrev pub μ : List ℕ → SceneOptions → List ℕ → ℕ → List ℕ → 
 
 module _ {L : Loop} {a : Call} where
   pub starts : a .count ≡ listed L a .count → Left L a (a .out) (a .plan) 0
-  starts read = record { within = omega arith; kept = refl; left = λ cells m k. each-from _ _ _ _ read }
+  starts read = record { within = omega arith; kept = refl; left = λ cells k m. each-from _ _ _ _ read }
 
   module _ {out : List ℕ} {plan : ScenePlan} {i : ℕ} (here : Left L a out plan i) where
-    pub done : a .count ≤ i → (cells : ℕ) (m k : List ℕ) → go (world plan out m k) ≡ whole L a cells m k
-    done none-left cells m k = sym (each-done _ _ i _ none-left) ∙ here .left cells m k
+    pub done : a .count ≤ i → (cells : ℕ) (k m : List ℕ) → go (world plan out k m) ≡ whole L a cells k m
+    done none-left cells k m = sym (each-done _ _ i _ none-left) ∙ here .left cells k m
 
     module _ (due : i < a .count) {asked : Bool} (budget : (query : SceneOptions) (hidden : List ℕ) → asked ≡ detailBudgetExhausted (queryOf query hidden (a .limit)) plan) where
       -- a turn that halts is the last
-      halted : {w : World (List ℕ)} (cells : ℕ) (m k : List ℕ) → turn L a cells i (world plan out m k) ≡ halt w → halt w ≡ whole L a cells m k
-      halted cells m k e = sym (each-halt _ _ i _ _ due e) ∙ here .left cells m k
+      halted : {w : World (List ℕ)} (cells : ℕ) (k m : List ℕ) → turn L a cells i (world plan out k m) ≡ halt w → halt w ≡ whole L a cells k m
+      halted cells k m e = sym (each-halt _ _ i _ _ due e) ∙ here .left cells k m
 
-      pub exhausted : asked ≡ true → {plan₁ : ScenePlan} {out₁ : List ℕ} → ((m k : List ℕ) → world plan₁ out₁ m k ≡ addLoadIfBoxed noTag onTape tt (a .cell) (a .bounds) (world plan out m k))
-          → (cells : ℕ) (m k : List ℕ) → halt (world plan₁ out₁ m k) ≡ whole L a cells m k
-      exhausted full added cells m k = halted cells m k (L .step-exhausted _ _ _ _ _ _ _ _ _ (sym (budget (a .query) (a .hidden)) ∙ full) ∙ ap halt (sym (added m k)))
+      pub exhausted : asked ≡ true → {plan₁ : ScenePlan} {out₁ : List ℕ} → ((k m : List ℕ) → world plan₁ out₁ k m ≡ addLoadIfBoxed noTag onTape tt (a .cell) (a .bounds) (world plan out k m))
+          → (cells : ℕ) (k m : List ℕ) → halt (world plan₁ out₁ k m) ≡ whole L a cells k m
+      exhausted full added cells k m = halted cells k m (L .step-exhausted _ _ _ _ _ _ _ _ _ (sym (budget (a .query) (a .hidden)) ∙ full) ∙ ap halt (sym (added k m)))
 
       module _ (room : asked ≡ false) {number : ℕ} (read : number ≡ listed L a .at i) where
         -- a turn with room, by what is done with the number
-        turned : {f : Flow (List ℕ)} (cells : ℕ) (m k : List ℕ) → pushed L a number (world plan out m k) ≡ f → turn L a cells i (world plan out m k) ≡ haltWithCell noTag onTape tt (a .cell) (a .bounds) f
-        turned cells m k e =
+        turned : {f : Flow (List ℕ)} (cells : ℕ) (k m : List ℕ) → pushed L a number (world plan out k m) ≡ f → turn L a cells i (world plan out k m) ≡ haltWithCell noTag onTape tt (a .cell) (a .bounds) f
+        turned cells k m e =
             L .step-with-room _ _ _ _ _ _ _ _ _ (sym (budget (a .query) (a .hidden)) ∙ room)
-            ∙ ap (haltWithCell noTag onTape tt (a .cell) (a .bounds)) (ap (λ (n : ℕ). pushed L a n (world plan out m k)) (sym read) ∙ e)
+            ∙ ap (haltWithCell noTag onTape tt (a .cell) (a .bounds)) (ap (λ (n : ℕ). pushed L a n (world plan out k m)) (sym read) ∙ e)
 
-        pub goes : {plan₁ : ScenePlan} {out₁ : List ℕ} → ((m k : List ℕ) → pushed L a number (world plan out m k) ≡ go (world plan₁ out₁ m k)) → length out₁ ≡ length out → Left L a out₁ plan₁ (i + 1)
+        pub goes : {plan₁ : ScenePlan} {out₁ : List ℕ} → ((k m : List ℕ) → pushed L a number (world plan out k m) ≡ go (world plan₁ out₁ k m)) → length out₁ ≡ length out → Left L a out₁ plan₁ (i + 1)
         goes e same = record {
           within = omega arith;
           kept = same ∙ here .kept;
-          left = λ cells m k. sym (each-go _ _ i _ _ due (turned cells m k (e m k))) ∙ here .left cells m k;
+          left = λ cells k m. sym (each-go _ _ i _ _ due (turned cells k m (e k m))) ∙ here .left cells k m;
         }
 
-        pub halts : {plan₁ : ScenePlan} {out₁ : List ℕ} → ((m k : List ℕ) → pushed L a number (world plan out m k) ≡ halt (world plan₁ out₁ m k))
-            → {plan₂ : ScenePlan} {out₂ : List ℕ} → ((m k : List ℕ) → world plan₂ out₂ m k ≡ addLoadIfBoxed noTag onTape tt (a .cell) (a .bounds) (world plan₁ out₁ m k))
-            → (cells : ℕ) (m k : List ℕ) → halt (world plan₂ out₂ m k) ≡ whole L a cells m k
-        halts e added cells m k = halted cells m k (turned cells m k (e m k) ∙ ap halt (sym (added m k)))
+        pub halts : {plan₁ : ScenePlan} {out₁ : List ℕ} → ((k m : List ℕ) → pushed L a number (world plan out k m) ≡ halt (world plan₁ out₁ k m))
+            → {plan₂ : ScenePlan} {out₂ : List ℕ} → ((k m : List ℕ) → world plan₂ out₂ k m ≡ addLoadIfBoxed noTag onTape tt (a .cell) (a .bounds) (world plan₁ out₁ k m))
+            → (cells : ℕ) (k m : List ℕ) → halt (world plan₂ out₂ k m) ≡ whole L a cells k m
+        halts e added cells k m = halted cells k m (turned cells k m (e k m) ∙ ap halt (sym (added k m)))

@@ -34,7 +34,7 @@ pub fn push_items(
     transform: Placement,
     bounds: Bounds,
 ) -> Listed
-    ensures { λ r. ⌜ ((cells : ℕ) (visit : VisitReference noTag onTape (sheetOf (now (sheet .entry))) cells (queryOf query (now (hidden .entry)) «object_limit»)) (m k : List ℕ) → ending (each (referenceStep noTag onTape (sheetOf (now (sheet .entry))) cells (queryOf query (now (hidden .entry)) «object_limit») tt cell (cellRecordAt (now (sheet .entry)) at) transform bounds visit) (r .references) 0 (world (r .plan) (now (out .exit)) m k)) ≡ ending (cellBody noTag onTape (sheetOf (now (sheet .entry))) cells (queryOf query (now (hidden .entry)) «object_limit») tt cell (cellRecordAt (now (sheet .entry)) at) transform bounds visit (world plan (now (out .entry)) m k))) ⌝ }
+    ensures { λ r. ⌜ ((cells : ℕ) (visit : VisitReference noTag onTape (sheetOf (now (sheet .entry))) cells (queryOf query (now (hidden .entry)) «object_limit»)) (k m : List ℕ) → ending (each (referenceStep noTag onTape (sheetOf (now (sheet .entry))) cells (queryOf query (now (hidden .entry)) «object_limit») tt cell (cellRecordAt (now (sheet .entry)) at) transform bounds visit) (r .references) 0 (world (r .plan) (now (out .exit)) k m)) ≡ ending (cellBody noTag onTape (sheetOf (now (sheet .entry))) cells (queryOf query (now (hidden .entry)) «object_limit») tt cell (cellRecordAt (now (sheet .entry)) at) transform bounds visit (world plan (now (out .entry)) k m))) ⌝ }
 {
     let geometries = push_geometries(
         sheet,

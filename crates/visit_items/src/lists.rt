@@ -30,7 +30,7 @@ pub fn push_geometries(
     transform: Placement,
     bounds: Bounds,
 ) -> Visited
-    ensures { λ r. ⌜ ((cells : ℕ) (m k : List ℕ) → flow (r .whole) (world (r .plan) (now (out .exit)) m k) ≡ each (geometryStep noTag onTape (sheetOf (now (sheet .entry))) cells (queryOf query (now (hidden .entry)) «object_limit») tt cell (cellRecordAt (now (sheet .entry)) at) transform bounds) (cellRecordAt (now (sheet .entry)) at .geometries .count) 0 (world plan (now (out .entry)) m k)) ⌝ }
+    ensures { λ r. ⌜ ((cells : ℕ) (k m : List ℕ) → flow (r .whole) (world (r .plan) (now (out .exit)) k m) ≡ each (geometryStep noTag onTape (sheetOf (now (sheet .entry))) cells (queryOf query (now (hidden .entry)) «object_limit») tt cell (cellRecordAt (now (sheet .entry)) at) transform bounds) (cellRecordAt (now (sheet .entry)) at .geometries .count) 0 (world plan (now (out .entry)) k m)) ⌝ }
 {
     let count = records::cell_at(sheet, at).geometries;
     let mut next = plan;
@@ -73,7 +73,7 @@ pub fn push_texts(
     transform: Placement,
     bounds: Bounds,
 ) -> Visited
-    ensures { λ r. ⌜ ((cells : ℕ) (m k : List ℕ) → flow (r .whole) (world (r .plan) (now (out .exit)) m k) ≡ each (textStep noTag onTape (sheetOf (now (sheet .entry))) cells (queryOf query (now (hidden .entry)) «object_limit») tt cell (cellRecordAt (now (sheet .entry)) at) transform bounds) (cellRecordAt (now (sheet .entry)) at .texts .count) 0 (world plan (now (out .entry)) m k)) ⌝ }
+    ensures { λ r. ⌜ ((cells : ℕ) (k m : List ℕ) → flow (r .whole) (world (r .plan) (now (out .exit)) k m) ≡ each (textStep noTag onTape (sheetOf (now (sheet .entry))) cells (queryOf query (now (hidden .entry)) «object_limit») tt cell (cellRecordAt (now (sheet .entry)) at) transform bounds) (cellRecordAt (now (sheet .entry)) at .texts .count) 0 (world plan (now (out .entry)) k m)) ⌝ }
 {
     let count = records::cell_at(sheet, at).texts;
     let mut next = plan;
@@ -107,7 +107,7 @@ pub fn push_nodes(
     transform: Placement,
     bounds: Bounds,
 ) -> Visited
-    ensures { λ r. ⌜ ((cells : ℕ) (m k : List ℕ) → flow (r .whole) (world (r .plan) (now (out .exit)) m k) ≡ each (nodeStep noTag onTape (sheetOf (now (sheet .entry))) cells (queryOf query (now (hidden .entry)) «object_limit») tt cell (cellRecordAt (now (sheet .entry)) at) transform bounds) (cellRecordAt (now (sheet .entry)) at .nodes .count) 0 (world plan (now (out .entry)) m k)) ⌝ }
+    ensures { λ r. ⌜ ((cells : ℕ) (k m : List ℕ) → flow (r .whole) (world (r .plan) (now (out .exit)) k m) ≡ each (nodeStep noTag onTape (sheetOf (now (sheet .entry))) cells (queryOf query (now (hidden .entry)) «object_limit») tt cell (cellRecordAt (now (sheet .entry)) at) transform bounds) (cellRecordAt (now (sheet .entry)) at .nodes .count) 0 (world plan (now (out .entry)) k m)) ⌝ }
 {
     let count = records::cell_at(sheet, at).nodes;
     let mut next = plan;

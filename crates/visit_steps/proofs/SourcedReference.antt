@@ -22,9 +22,9 @@ use Rattle.plan_rules.specs.Visit.{label, VisitSource, visitCountedReference, v
 use Rattle.plan_rules.specs.Tape.{noTag, onTape}
 
 -- the answer of `over`: whatever would be left to do, the world stays
-pub is-over : (goes : Bool) (after before : ScenePlan) (left : World (List ℕ)) (o m k : List ℕ) → (after ≡ before) × (goes ≡ false) → cond goes left (world after o m k) ≡ world before o m k
-is-over goes after before left o m k e =
-    ap (λ (b : Bool). cond b left (world after o m k)) (e .1) ∙ ap (λ (s : ScenePlan). world s o m k) (e .0)
+pub is-over : (goes : Bool) (after before : ScenePlan) (left : World (List ℕ)) (o k m : List ℕ) → (after ≡ before) × (goes ≡ false) → cond goes left (world after o k m) ≡ world before o k m
+is-over goes after before left o k m e =
+    ap (λ (b : Bool). cond b left (world after o k m)) (e .1) ∙ ap (λ (s : ScenePlan). world s o k m) (e .0)
 
 module _ (S : Sheet) (cells : ℕ) (q : Query) (visit : VisitSource noTag onTape S cells q) (depth n : ℕ) (r : PreparedReference) (p : Placement) (w : World (List ℕ)) where
   abbrev visited : World (List ℕ)
@@ -67,6 +67,6 @@ module _ (S : Sheet) (cells : ℕ) (q : Query) (visit : VisitSource noTag onTape
 
         pub reference-opened : detailCellsFull (w .state) ≡ false
             → detailBudgetExhausted q (w .state) ≡ false
-            → visitCountedReference noTag onTape S cells q visit depth tt r p sourceBox worldBox (referenceDrawUnits S cells depth n (w .marks) (w .counts)) w ≡ visited
+            → visitCountedReference noTag onTape S cells q visit depth tt r p sourceBox worldBox (referenceDrawUnits S cells depth n (w .counts) (w .marks)) w ≡ visited
         unfolding visitBoxedReference
         reference-opened b x = (rw (← placed, seen, b, x)) ∙ boxed (Box x₂ y₂ x₃ y₃) has-members

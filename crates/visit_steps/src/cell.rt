@@ -34,7 +34,7 @@ pub fn enter_cell(
     at: usize,
     transform: Placement,
 ) -> Entered
-    ensures { λ r. ⌜ ((S : Sheet) (hidden : List ℕ) (visit : VisitReference noTag onTape S cells (queryOf query hidden «object_limit»)) (k : List ℕ) → cond (r .goes) (setMark (openPlace cells cell) 0 (ending (cellBody noTag onTape S cells (queryOf query hidden «object_limit») tt cell (cellRecordAt (now (sheet .entry)) at) transform (r .bounds) visit (world (r .plan) (now (out .exit)) (now (marks .exit)) k)))) (world (r .plan) (now (out .exit)) (now (marks .exit)) k) ≡ visitFoundCell noTag onTape S cells (queryOf query hidden «object_limit») visit tt cell transform (some (cellRecordAt (now (sheet .entry)) at)) (world plan (now (out .entry)) (now (marks .entry)) k)) ⌝ }
+    ensures { λ r. ⌜ ((S : Sheet) (hidden : List ℕ) (visit : VisitReference noTag onTape S cells (queryOf query hidden «object_limit»)) (k : List ℕ) → cond (r .goes) (setMark (openPlace cells cell) 0 (ending (cellBody noTag onTape S cells (queryOf query hidden «object_limit») tt cell (cellRecordAt (now (sheet .entry)) at) transform (r .bounds) visit (world (r .plan) (now (out .exit)) k (now (marks .exit)))))) (world (r .plan) (now (out .exit)) k (now (marks .exit))) ≡ visitFoundCell noTag onTape S cells (queryOf query hidden «object_limit») visit tt cell transform (some (cellRecordAt (now (sheet .entry)) at)) (world plan (now (out .entry)) k (now (marks .entry)))) ⌝ }
 {
     let record = records::cell_at(sheet, at);
     let bbox = record.bbox;

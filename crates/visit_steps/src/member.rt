@@ -38,7 +38,7 @@ pub fn try_member(
     depth: u32,
 ) -> Tried
     requires { ⌜ i < gridCount (reference .grid) ⌝ }
-    ensures { λ r. ⌜ ((S : Sheet) (cells : ℕ) (hidden : List ℕ) (visit : VisitSource noTag onTape S cells (queryOf query hidden «object_limit»)) (m k : List ℕ) → cond (r .opens) (haltWithMember noTag onTape tt (label (reference .source)) (r .bbox) (visit tt (reference .source) (r .placement) (world (r .plan) (now (out .exit)) m k))) (flow (r .whole) (world (r .plan) (now (out .exit)) m k)) ≡ memberStep noTag onTape S cells (queryOf query hidden «object_limit») visit depth tt reference transform «source_bbox» «world_bbox» units (i / (reference .grid .rows)) (i % (reference .grid .rows)) (world plan (now (out .entry)) m k)) ⌝ }
+    ensures { λ r. ⌜ ((S : Sheet) (cells : ℕ) (hidden : List ℕ) (visit : VisitSource noTag onTape S cells (queryOf query hidden «object_limit»)) (k m : List ℕ) → cond (r .opens) (haltWithMember noTag onTape tt (label (reference .source)) (r .bbox) (visit tt (reference .source) (r .placement) (world (r .plan) (now (out .exit)) k m))) (flow (r .whole) (world (r .plan) (now (out .exit)) k m)) ≡ memberStep noTag onTape S cells (queryOf query hidden «object_limit») visit depth tt reference transform «source_bbox» «world_bbox» units (i / (reference .grid .rows)) (i % (reference .grid .rows)) (world plan (now (out .entry)) k m)) ⌝ }
 {
     let grid = reference.grid;
     let rows = grid.rows as u64;

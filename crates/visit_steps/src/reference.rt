@@ -34,7 +34,7 @@ pub fn open_reference(
     reference: PreparedReference,
     transform: Placement,
 ) -> Opened
-    ensures { λ r. ⌜ ((S : Sheet) (cells : ℕ) (hidden : List ℕ) (visit : VisitSource noTag onTape S cells (queryOf query hidden «object_limit»)) (depth number : ℕ) (m k : List ℕ) → cond (r .goes) (visitCountedReference noTag onTape S cells (queryOf query hidden «object_limit») visit depth tt reference transform (r .«source_bbox») (r .«world_bbox») (referenceDrawUnits S cells depth number m k) (world (r .plan) (now (out .exit)) m k)) (world (r .plan) (now (out .exit)) m k) ≡ visitSourcedReference noTag onTape S cells (queryOf query hidden «object_limit») visit depth tt number reference transform (reference .«source_bbox») (world plan (now (out .entry)) m k)) ⌝ }
+    ensures { λ r. ⌜ ((S : Sheet) (cells : ℕ) (hidden : List ℕ) (visit : VisitSource noTag onTape S cells (queryOf query hidden «object_limit»)) (depth number : ℕ) (k m : List ℕ) → cond (r .goes) (visitCountedReference noTag onTape S cells (queryOf query hidden «object_limit») visit depth tt reference transform (r .«source_bbox») (r .«world_bbox») (referenceDrawUnits S cells depth number k m) (world (r .plan) (now (out .exit)) k m)) (world (r .plan) (now (out .exit)) k m) ≡ visitSourcedReference noTag onTape S cells (queryOf query hidden «object_limit») visit depth tt number reference transform (reference .«source_bbox») (world plan (now (out .entry)) k m)) ⌝ }
 {
     let bounds = reference.source_bbox;
     let Bounds::Box(min_x, min_y, max_x, max_y) = bounds else {

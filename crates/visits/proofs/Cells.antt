@@ -70,12 +70,12 @@ module _ (s : List ℕ) (cellCount : ℕ) (q : Query) (depth : ℕ) where
         cell-not-entered h = sym (ap (λ (b : Bool). cond b (setMark (openPlace cellCount cell) 0 body) w₁) (not-true goes h)) ∙ found-visited
 
         -- its items listed, the loop over its references ends in a world, early or not, in which the cell is closed
-        pub cell-visited : not goes ≡ false → (references : ℕ) (w₂ : World (List ℕ)) (plan : ScenePlan) (o m m′ k : List ℕ)
+        pub cell-visited : not goes ≡ false → (references : ℕ) (w₂ : World (List ℕ)) (plan : ScenePlan) (o k m m′ : List ℕ)
             → ending (each (turn s cellCount q depth cell at p box) references 0 w₂) ≡ body
-            → ending (each (turn s cellCount q depth cell at p box) references 0 w₂) ≡ world plan o m k
+            → ending (each (turn s cellCount q depth cell at p box) references 0 w₂) ≡ world plan o k m
             → m′ ≡ set m (openPlace cellCount cell) 0
-            → world plan o m′ k ≡ visited
-        cell-visited h references w₂ plan o m m′ k listed ended closed =
+            → world plan o k m′ ≡ visited
+        cell-visited h references w₂ plan o k m m′ listed ended closed =
             ap (λ (x : List ℕ). world plan o x k) closed
             ∙ ap (setMark (openPlace cellCount cell) 0) (sym ended ∙ listed)
             ∙ sym (ap (λ (b : Bool). cond b (setMark (openPlace cellCount cell) 0 body) w₁) (not-false goes h))

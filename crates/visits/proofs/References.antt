@@ -115,25 +115,25 @@ module _ (s : List ℕ) (cells : ℕ) (query : SceneOptions) (hidden : List ℕ)
     member-by-member share w =
         members-in-one-loop (memberStep noTag onTape (sheetOf s) cells q (visitSource noTag onTape (sheetOf s) cells q (depth - 1)) depth tt r transform sourceBox worldBox share) (r .grid .rows) (r .grid .columns) w
 
-    module _ (w : World (List ℕ)) (u : Units) (units count : ℕ) (m k : List ℕ) (units-are : counted units m k ≡ u) (grid : count ≡ gridCount (r .grid))
+    module _ (w : World (List ℕ)) (u : Units) (units count : ℕ) (k m : List ℕ) (units-are : counted units k m ≡ u) (grid : count ≡ gridCount (r .grid))
         (collapses : Bool)
         (tested : collapses ≡ shouldCollapseReference (referenceScreenSize worldBox (query .zoom) (sourceIsDegenerate sourceBox) .width) (referenceScreenSize worldBox (query .zoom) (sourceIsDegenerate sourceBox) .height) count units depth false)
       where
-        counted-is : visitCountedReference noTag onTape (sheetOf s) cells q deeper depth tt r transform sourceBox worldBox (counted units m k) w ≡ visitCountedReference noTag onTape (sheetOf s) cells q deeper depth tt r transform sourceBox worldBox u w
+        counted-is : visitCountedReference noTag onTape (sheetOf s) cells q deeper depth tt r transform sourceBox worldBox (counted units k m) w ≡ visitCountedReference noTag onTape (sheetOf s) cells q deeper depth tt r transform sourceBox worldBox u w
         counted-is = ap (λ (u : Units). visitCountedReference noTag onTape (sheetOf s) cells q deeper depth tt r transform sourceBox worldBox u w) units-are
 
-        pub collapsed : collapses ≡ true → (l : ℕ) → l ≡ label (r .source) → (v : World (List ℕ)) → v ≡ addLoad noTag onTape tt l worldBox (world (w .state) (w .out) m k)
+        pub collapsed : collapses ≡ true → (l : ℕ) → l ≡ label (r .source) → (v : World (List ℕ)) → v ≡ addLoad noTag onTape tt l worldBox (world (w .state) (w .out) k m)
             → v ≡ visitCountedReference noTag onTape (sheetOf s) cells q deeper depth tt r transform sourceBox worldBox u w
         unfolding visitCountedReference
         collapsed h l e v boxed =
-            let rules : visitCountedReference noTag onTape (sheetOf s) cells q deeper depth tt r transform sourceBox worldBox (counted units m k) w ≡ addLoad noTag onTape tt (label (r .source)) worldBox (world (w .state) (w .out) m k) = rw (← grid, ← tested, h) in
-            boxed ∙ ap (λ (l : ℕ). addLoad noTag onTape tt l worldBox (world (w .state) (w .out) m k)) e ∙ sym rules ∙ counted-is
+            let rules : visitCountedReference noTag onTape (sheetOf s) cells q deeper depth tt r transform sourceBox worldBox (counted units k m) w ≡ addLoad noTag onTape tt (label (r .source)) worldBox (world (w .state) (w .out) k m) = rw (← grid, ← tested, h) in
+            boxed ∙ ap (λ (l : ℕ). addLoad noTag onTape tt l worldBox (world (w .state) (w .out) k m)) e ∙ sym rules ∙ counted-is
 
         pub expanded : collapses ≡ false → (share : ℕ) → share ≡ sourceUnits units count
-            → ending (each (turn share) count 0 (world (w .state) (w .out) m k)) ≡ visitCountedReference noTag onTape (sheetOf s) cells q deeper depth tt r transform sourceBox worldBox u w
+            → ending (each (turn share) count 0 (world (w .state) (w .out) k m)) ≡ visitCountedReference noTag onTape (sheetOf s) cells q deeper depth tt r transform sourceBox worldBox u w
         unfolding visitCountedReference
         expanded h share e =
             let deep : 1 < depth = expands-deep sourceBox worldBox count units (sym tested ∙ h) in
-            let rules : visitCountedReference noTag onTape (sheetOf s) cells q deeper depth tt r transform sourceBox worldBox (counted units m k) w ≡ ending (each (turn share) count 0 (world (w .state) (w .out) m k)) =
-            rw (← grid, ← tested, h, ← e, Paths.deeper-is noTag onTape (sheetOf s) cells q depth (omega arith), member-by-member share (world (w .state) (w .out) m k), ← grid) in
+            let rules : visitCountedReference noTag onTape (sheetOf s) cells q deeper depth tt r transform sourceBox worldBox (counted units k m) w ≡ ending (each (turn share) count 0 (world (w .state) (w .out) k m)) =
+            rw (← grid, ← tested, h, ← e, Paths.deeper-is noTag onTape (sheetOf s) cells q depth (omega arith), member-by-member share (world (w .state) (w .out) k m), ← grid) in
             sym rules ∙ counted-is

@@ -27,7 +27,7 @@ pub fn visit_cell(
     transform: Placement,
     depth: u32,
 ) -> ScenePlan
-    ensures { λ r. ⌜ world r (now (out .exit)) (now (marks .exit)) (now (counts .exit)) ≡ visitCell noTag onTape (sheetOf (now (sheet .entry))) cells (queryOf query (now (hidden .entry)) «object_limit») depth tt cell transform (world plan (now (out .entry)) (now (marks .entry)) (now (counts .entry))) ⌝ }
+    ensures { λ r. ⌜ world r (now (out .exit)) (now (counts .exit)) (now (marks .exit)) ≡ visitCell noTag onTape (sheetOf (now (sheet .entry))) cells (queryOf query (now (hidden .entry)) «object_limit») depth tt cell transform (world plan (now (out .entry)) (now (counts .entry)) (now (marks .entry))) ⌝ }
 {
     let Found::At(at) = walk::find(sheet, 5, cell) else {
         return plan; // the sheet lacks the cell
@@ -105,7 +105,7 @@ pub fn visit_reference(
     transform: Placement,
     depth: u32,
 ) -> ScenePlan
-    ensures { λ r. ⌜ world r (now (out .exit)) (now (marks .exit)) (now (counts .exit)) ≡ visitReference noTag onTape (sheetOf (now (sheet .entry))) cells (queryOf query (now (hidden .entry)) «object_limit») depth tt number transform (world plan (now (out .entry)) (now (marks .entry)) (now (counts .entry))) ⌝ }
+    ensures { λ r. ⌜ world r (now (out .exit)) (now (counts .exit)) (now (marks .exit)) ≡ visitReference noTag onTape (sheetOf (now (sheet .entry))) cells (queryOf query (now (hidden .entry)) «object_limit») depth tt number transform (world plan (now (out .entry)) (now (counts .entry)) (now (marks .entry))) ⌝ }
 {
     let Found::At(at) = walk::find(sheet, 4, number) else {
         return plan; // no sheet that passes question 7 names such a reference
@@ -190,7 +190,7 @@ pub fn visit_source(
     transform: Placement,
     depth: u32,
 ) -> Visited
-    ensures { λ r. ⌜ flow (r .whole) (world (r .plan) (now (out .exit)) (now (marks .exit)) (now (counts .exit))) ≡ visitSource noTag onTape (sheetOf (now (sheet .entry))) cells (queryOf query (now (hidden .entry)) «object_limit») depth tt source transform (world plan (now (out .entry)) (now (marks .entry)) (now (counts .entry))) ⌝ }
+    ensures { λ r. ⌜ flow (r .whole) (world (r .plan) (now (out .exit)) (now (counts .exit)) (now (marks .exit))) ≡ visitSource noTag onTape (sheetOf (now (sheet .entry))) cells (queryOf query (now (hidden .entry)) «object_limit») depth tt source transform (world plan (now (out .entry)) (now (counts .entry)) (now (marks .entry))) ⌝ }
 {
     match source {
         PreparedSource::Cell(cell) => {

@@ -188,7 +188,7 @@ module _ (S : Sheet) (cells : ℕ) (q : Query) where
       cond-case A (not (overlaps wb (q .view))) _ _ (λ _. adds-quiet (Under t) (w .out) t culledReference refl)
       (λ _. cond-case A (detailCellsFull (w .state)) _ _ (λ _. load-adds (Under t) t (label (r .source)) wb w)
       (λ _. cond-case A (detailBudgetExhausted q (w .state)) _ _ (λ _. load-adds (Under t) t (label (r .source)) wb w)
-      (λ _. counted-adds visit hv d t r p sb wb (referenceDrawUnits S cells d n (w .marks) (w .counts)) w)))
+      (λ _. counted-adds visit hv d t r p sb wb (referenceDrawUnits S cells d n (w .counts) (w .marks)) w)))
 
   sourced-adds : (visit : VisitSource enter note S cells q) → Sources visit → (d : ℕ) (t : List Step) (n : ℕ) (r : PreparedReference) (p : Placement) (o : Bounds) → AddsWorld (Under t) (visitSourcedReference enter note S cells q visit d t n r p o)
   unfolding visitSourcedReference
@@ -230,8 +230,8 @@ module _ (S : Sheet) (cells : ℕ) (q : Query) where
       let v = visitRoot enter note S cells q (q .depth) t w in
       quiet-after (Under t) (w .out) (v .out) _ (root-adds (q .depth) t w) (adds-quiet Nowhere (v .out) t (totals (v .state)) refl)
 
-  pub plan-once : (m k : List ℕ) → Once ((plan enter note S cells q [] (world emptyPlan [] m k)) .out)
-  plan-once m k = (plan-adds [] (world emptyPlan [] m k)) .once tt (λ x r z. nothing r)
+  pub plan-once : (k m : List ℕ) → Once ((plan enter note S cells q [] (world emptyPlan [] k m)) .out)
+  plan-once k m = (plan-adds [] (world emptyPlan [] k m)) .once tt (λ x r z. nothing r)
     where
       nothing : {x : List Step} → Recorded x [] → ⊥
       nothing r = elim r [ ]

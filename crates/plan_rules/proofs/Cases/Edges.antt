@@ -137,7 +137,7 @@ cases =
     ∷ is ((circleUnits 3 0) .units) 13
     ∷ is (getD ((circleUnits 3 0) .marks) (rememberedPlace 2 2 1) 0) 1
     ∷ is (getD ((circleUnits 3 0) .counts) (countPlace 2 2 1) 0) 8
-    ∷ is ((cellDrawUnits circle 2 2 1 ((circleUnits 3 0) .marks) ((circleUnits 3 0) .counts)) .units) 8
+    ∷ is ((cellDrawUnits circle 2 2 1 ((circleUnits 3 0) .counts) ((circleUnits 3 0) .marks)) .units) 8
     ∷ is ((circleUnits 2 1) .units) 13
     ∷ []
 
@@ -195,12 +195,12 @@ once = cellDrawUnits apart 2 1 0 (replicate 10 0) (replicate 6 0)
 pub memory : List Case
 memory =
     is (once .units) 5
-    ∷ is ((cellDrawUnits apart 2 1 0 (once .marks) (once .counts)) .units) 5
-    ∷ is ((cellDrawUnits apart 2 2 0 (once .marks) (once .counts)) .units) 5
-    ∷ is ((cellDrawUnits apart 2 1 1 (once .marks) (once .counts)) .units) 7
+    ∷ is ((cellDrawUnits apart 2 1 0 (once .counts) (once .marks)) .units) 5
+    ∷ is ((cellDrawUnits apart 2 2 0 (once .counts) (once .marks)) .units) 5
+    ∷ is ((cellDrawUnits apart 2 1 1 (once .counts) (once .marks)) .units) 7
     -- depth 0, and a cell that the sheet lacks
-    ∷ is ((cellDrawUnits apart 2 0 0 (once .marks) (once .counts)) .units) 1
-    ∷ is ((cellDrawUnits apart 2 1 2 (once .marks) (once .counts)) .units) 1
+    ∷ is ((cellDrawUnits apart 2 0 0 (once .counts) (once .marks)) .units) 1
+    ∷ is ((cellDrawUnits apart 2 1 2 (once .counts) (once .marks)) .units) 1
     ∷ []
 
 pub all-memory : map rulesOf memory ≡ map paperOf memory

@@ -29,21 +29,21 @@ deep d = ne-eqb (suc d) 0 (λ q. let z : ⊥ = omega arith in z)
 
 -- what the places hold for a cell and a depth
 unfoldable pub recalled : ℕ → List ℕ → List ℕ → ℕ → ℕ → Option ℕ
-recalled n m k c d = cond (isMarked m (place n (d + 1) c)) (some (getD k (place n (d - 1) c) 0)) none
+recalled n k m c d = cond (some (getD k (place n (d - 1) c) 0)) (isMarked m (place n (d + 1) c)) none
 
-pub record Agree (n D : ℕ) (m k : List ℕ) (w : Maps) : Type 0 where
+pub record Agree (n D : ℕ) (k m : List ℕ) (w : Maps) : Type 0 where
   pub marks-room : (D + 2) * n ≤ length m
   pub counts-room : D * n ≤ length k
   pub visiting : (c : ℕ) → c < n → isMarked m (place n 0 c) ≡ w .cellStack c
   pub counting : (c : ℕ) → c < n → isMarked m (place n 1 c) ≡ w .stack c
-  pub remembered : (c d : ℕ) → c < n → 0 < d → d ≤ D → recalled n m k c d ≡ w .cache c d
+  pub remembered : (c d : ℕ) → c < n → 0 < d → d ≤ D → recalled n k m c d ≡ w .cache c d
   -- nothing is remembered at depth 0, and a cell that the sheet lacks counts 1
   pub shallow : (c : ℕ) → w .cache c 0 ≡ none
   pub outside : (c d v : ℕ) → n ≤ c → w .cache c d ≡ some v → v ≡ 1
 
 pub record Same (n D : ℕ) (x : Units) (t : Tally) : Type 0 where
   pub units : x .units ≡ t .units
-  pub agree : Agree n D (x .marks) (x .counts) (t .maps)
+  pub agree : Agree n D (x .counts) (x .marks) (t .maps)
 
 -- zeroed places are the empty maps
 pub zeroed-agree : (n D : ℕ) → Agree n D (replicate ((D + 2) * n) 0) (replicate (D * n) 0) emptyMaps
@@ -84,13 +84,13 @@ module _ (n D : ℕ) where
         by true e = ap (λ (z : ℕ). isMarked (set m (place n l c) v) (place n l z)) (eqb-true x c e) ∙ mark-there ∙ hv
         by false e = mark-elsewhere l x hx (λ p q. eqb-false x c e q) ∙ before x hx
 
-  module _ (m k : List ℕ) (w : Maps) (a : Agree n D m k w) (c : ℕ) (hc : c < n) where
-    recalled-kept : (l v x y : ℕ) → l < D + 2 → x < n → (y + 1 ≡ l → ⊥) → recalled n (set m (place n l c) v) k x y ≡ recalled n m k x y
+  module _ (k m : List ℕ) (w : Maps) (a : Agree n D k m w) (c : ℕ) (hc : c < n) where
+    recalled-kept : (l v x y : ℕ) → l < D + 2 → x < n → (y + 1 ≡ l → ⊥) → recalled n k (set m (place n l c) v) x y ≡ recalled n k m x y
     unfolding recalled
     recalled-kept l v x y hl hx h = ap (λ (t : Bool). cond t (some (getD k (place n (y - 1) x) 0)) none) (mark-elsewhere m (a .marks-room) l c hl hc v (y + 1) x hx (λ p q. h p))
 
     -- the planner opens and closes a cell
-    pub open-agree : (v : ℕ) (b : Bool) → not (eqb v 0) ≡ b → Agree n D (set m (place n 0 c) v) k (opened c b w)
+    pub open-agree : (v : ℕ) (b : Bool) → not (eqb v 0) ≡ b → Agree n D k (set m (place n 0 c) v) (opened c b w)
     open-agree v b hv = record {
       marks-room = let e = length-set m (place n 0 c) v in omega (arith, e, a .marks-room);
       counts-room = a .counts-room;
@@ -102,7 +102,7 @@ module _ (n D : ℕ) where
     }
 
     -- a count begins and ends
-    count-agree : (v : ℕ) (b : Bool) → not (eqb v 0) ≡ b → Agree n D (set m (place n 1 c) v) k (stacked c b w)
+    count-agree : (v : ℕ) (b : Bool) → not (eqb v 0) ≡ b → Agree n D k (set m (place n 1 c) v) (stacked c b w)
     count-agree v b hv = record {
       marks-room = let e = length-set m (place n 1 c) v in omega (arith, e, a .marks-room);
       counts-room = a .counts-room;
@@ -114,7 +114,7 @@ module _ (n D : ℕ) where
     }
 
     -- a count is remembered
-    remember-agree : (d u : ℕ) → 0 < d → d ≤ D → Agree n D (set m (place n (d + 1) c) 1) (set k (place n (d - 1) c) u) (cached c d u w)
+    remember-agree : (d u : ℕ) → 0 < d → d ≤ D → Agree n D (set k (place n (d - 1) c) u) (set m (place n (d + 1) c) 1) (cached c d u w)
     unfolding recalled
     remember-agree d u h0 hd = record {
       marks-room = let e = length-set m (place n (d + 1) c) 1 in omega (arith, e, a .marks-room);
@@ -129,16 +129,16 @@ module _ (n D : ℕ) where
         count-room : place n (d - 1) c < length k
         count-room = let p : place n (d - 1) c < D * n = place-below n (d - 1) D c (omega arith) hc in omega (arith, a .counts-room)
 
-        other : (x y : ℕ) → x < n → 0 < y → y ≤ D → (y ≡ d → x ≡ c → ⊥) → recalled n (set m (place n (d + 1) c) 1) (set k (place n (d - 1) c) u) x y ≡ w .cache x y
+        other : (x y : ℕ) → x < n → 0 < y → y ≤ D → (y ≡ d → x ≡ c → ⊥) → recalled n (set k (place n (d - 1) c) u) (set m (place n (d + 1) c) 1) x y ≡ w .cache x y
         other x y hx hy hz g =
             ap (λ (t : Bool). cond t (some (getD (set k (place n (d - 1) c) u) (place n (y - 1) x) 0)) none) (mark-elsewhere m (a .marks-room) (d + 1) c (omega arith) hc 1 (y + 1) x hx (λ p q. g (let z : y ≡ d = omega arith in z) q))
-            ∙ ap (λ (z : ℕ). cond (isMarked m (place n (y + 1) x)) (some z) none) (getD-set-other k (place n (d - 1) c) (place n (y - 1) x) u 0 (places-apart n (y - 1) (d - 1) x c hx hc (λ p q. g (let z : y ≡ d = omega arith in z) q)))
+            ∙ ap (getD-set-other k (place n (d - 1) c) (place n (y - 1) x) u 0 (places-apart n (y - 1) (d - 1) x c hx hc (λ p q. g (let z : y ≡ d = omega arith in z) q))) (λ (z : ℕ). cond (isMarked m (place n (y + 1) x)) (some z) none)
             ∙ a .remembered x y hx hy hz
 
-        there : (x y : ℕ) → x < n → 0 < y → y ≤ D → (s : Bool) → eqb x c ≡ s → (t : Bool) → eqb y d ≡ t → recalled n (set m (place n (d + 1) c) 1) (set k (place n (d - 1) c) u) x y ≡ cond s (cond t (some u) (w .cache x y)) (w .cache x y)
+        there : (x y : ℕ) → x < n → 0 < y → y ≤ D → (s : Bool) → eqb x c ≡ s → (t : Bool) → eqb y d ≡ t → recalled n (set k (place n (d - 1) c) u) (set m (place n (d + 1) c) 1) x y ≡ cond s (cond t (some u) (w .cache x y)) (w .cache x y)
         there x y hx hy hz true e true f =
-            ap (λ (z : ℕ). recalled n (set m (place n (d + 1) c) 1) (set k (place n (d - 1) c) u) z y) (eqb-true x c e)
-            ∙ ap (λ (z : ℕ). recalled n (set m (place n (d + 1) c) 1) (set k (place n (d - 1) c) u) c z) (eqb-true y d f)
+            ap (λ (z : ℕ). recalled n (set k (place n (d - 1) c) u) (set m (place n (d + 1) c) 1) z y) (eqb-true x c e)
+            ∙ ap (λ (z : ℕ). recalled n (set k (place n (d - 1) c) u) (set m (place n (d + 1) c) 1) c z) (eqb-true y d f)
             ∙ rw (getD-set-same m (place n (d + 1) c) 1 0 (let p : place n (d + 1) c < (D + 2) * n = place-below n (d + 1) (D + 2) c (omega arith) hc in omega (arith, a .marks-room)), getD-set-same k (place n (d - 1) c) u 0 count-room)
         there x y hx hy hz true e false f = other x y hx hy hz (λ p q. eqb-false y d f p)
         there x y hx hy hz false e t f = other x y hx hy hz (λ p q. eqb-false x c e q)
@@ -149,8 +149,8 @@ module _ (n D : ℕ) where
 
   -- ---- a cell that the sheet lacks: the Rust remembers 1 for it, and the places have nothing
 
-  module _ (m k : List ℕ) (w : Maps) (a : Agree n D m k w) (c : ℕ) (hc : n ≤ c) where
-    missing-agree : (d : ℕ) → 0 < d → Agree n D m k (cached c d 1 (stacked c false (stacked c true w)))
+  module _ (k m : List ℕ) (w : Maps) (a : Agree n D k m w) (c : ℕ) (hc : n ≤ c) where
+    missing-agree : (d : ℕ) → 0 < d → Agree n D k m (cached c d 1 (stacked c false (stacked c true w)))
     missing-agree d h0 = record {
       marks-room = a .marks-room;
       counts-room = a .counts-room;
@@ -173,85 +173,85 @@ module _ (n D : ℕ) where
   -- ---- the three counts
 
   module _ (S : Sheet) (numbered : CellsBelow n S) where
-    module _ (visit : ℕ → List ℕ → List ℕ → Units) (walk : ℕ → Maps → Tally) (hv : (r : ℕ) (m k : List ℕ) (w : Maps) → Agree n D m k w → Same n D (visit r m k) (walk r w)) where
+    module _ (visit : ℕ → List ℕ → List ℕ → Units) (walk : ℕ → Maps → Tally) (hv : (r : ℕ) (k m : List ℕ) (w : Maps) → Agree n D k m w → Same n D (visit r k m) (walk r w)) where
       fold-same : (c : CellRecord) (g i : ℕ) (x : Units) (t : Tally) → Same n D x t → Same n D (fold (addReferenceUnits visit c) g i x) (foldMaps (addMapped walk c) g i t)
       unfolding fold foldMaps addReferenceUnits addMapped
       fold-same c zero i x t h = h
       fold-same c (suc g) i x t h =
-          let y = hv (c .references .at i) (x .marks) (x .counts) (t .maps) (h .agree) in
+          let y = hv (c .references .at i) (x .counts) (x .marks) (t .maps) (h .agree) in
           fold-same c g (i + 1) _ _
           (record {
-            units = ap (λ (u : ℕ). saturate (u + visit (c .references .at i) (x .marks) (x .counts) .units)) (h .units) ∙ ap (λ (u : ℕ). saturate (t .units + u)) (y .units);
+            units = ap (λ (u : ℕ). saturate (u + visit (c .references .at i) (x .counts) (x .marks) .units)) (h .units) ∙ ap (λ (u : ℕ). saturate (t .units + u)) (y .units);
             agree = y .agree;
           })
 
       -- the cell is counted, closed and remembered
-      counted-same : (m k : List ℕ) (w : Maps) (c : ℕ) (x : CellRecord) (d : ℕ) → Agree n D m k w → c < n → 0 < d → d ≤ D
+      counted-same : (k m : List ℕ) (w : Maps) (c : ℕ) (x : CellRecord) (d : ℕ) → Agree n D k m w → c < n → 0 < d → d ≤ D
           → let t = mapOrOne walk (some x) (stacked c true w) in
-          Same n D (remember S n d c (fold (addReferenceUnits visit x) (x .references .count) 0 (counted (x .«direct_draw_units») (set m (place n 1 c) 1) k))) (tally (t .units) (cached c d (t .units) (stacked c false (t .maps))))
+          Same n D (remember S n d c (fold (addReferenceUnits visit x) (x .references .count) 0 (counted (x .«direct_draw_units») k (set m (place n 1 c) 1)))) (tally (t .units) (cached c d (t .units) (stacked c false (t .maps))))
       unfolding remember mapOrOne
-      counted-same m k w c x d a hc h0 hd =
+      counted-same k m w c x d a hc h0 hd =
           let t = foldMaps (addMapped walk x) (x .references .count) 0 (tally (x .«direct_draw_units») (stacked c true w)) in
-          let u = fold (addReferenceUnits visit x) (x .references .count) 0 (counted (x .«direct_draw_units») (set m (place n 1 c) 1) k) in
-          let y = fold-same x (x .references .count) 0 (counted (x .«direct_draw_units») (set m (place n 1 c) 1) k) (tally (x .«direct_draw_units») (stacked c true w)) (record { units = refl; agree = count-agree m k w a c hc 1 true refl }) in
+          let u = fold (addReferenceUnits visit x) (x .references .count) 0 (counted (x .«direct_draw_units») k (set m (place n 1 c) 1)) in
+          let y = fold-same x (x .references .count) 0 (counted (x .«direct_draw_units») k (set m (place n 1 c) 1)) (tally (x .«direct_draw_units») (stacked c true w)) (record { units = refl; agree = count-agree k m w a c hc 1 true refl }) in
           record {
             units = y .units;
-            agree = subst (λ (v : ℕ). Agree n D (set (set (u .marks) (place n 1 c) 0) (place n (d + 1) c) 1) (set (u .counts) (place n (d - 1) c) (u .units)) (cached c d v (stacked c false (t .maps)))) (y .units)
+            agree = subst (λ (v : ℕ). Agree n D (set (u .counts) (place n (d - 1) c) (u .units)) (set (set (u .marks) (place n 1 c) 0) (place n (d + 1) c) 1) (cached c d v (stacked c false (t .maps)))) (y .units)
                 (remember-agree _ _ _ (count-agree _ _ _ (y .agree) c hc 0 false refl) c hc d _ h0 hd);
           }
 
-      present-same : (m k : List ℕ) (w : Maps) (c : ℕ) (x : CellRecord) (d : ℕ) → Agree n D m k w → c < n → d ≤ D → Same n D (cellDrawUnitsWith S n d visit c (some x) m k) (mappedCell walk d c (some x) w)
+      present-same : (k m : List ℕ) (w : Maps) (c : ℕ) (x : CellRecord) (d : ℕ) → Agree n D k m w → c < n → d ≤ D → Same n D (cellDrawUnitsWith S n d visit c (some x) k m) (mappedCell walk d c (some x) w)
       unfolding cellDrawUnitsWith mappedCell freshCell recalled
-      present-same m k w c x zero a hc hd = rw (a .shallow c) (record { units = refl; agree = a })
-      present-same m k w c x (suc d) a hc hd = by (isMarked m (place n (suc d + 1) c)) refl (w .stack c) refl
+      present-same k m w c x zero a hc hd = rw (a .shallow c) (record { units = refl; agree = a })
+      present-same k m w c x (suc d) a hc hd = by (isMarked m (place n (suc d + 1) c)) refl (w .stack c) refl
         where
           known : (b : Bool) → isMarked m (place n (suc d + 1) c) ≡ b → w .cache c (suc d) ≡ cond b (some (getD k (place n (suc d - 1) c) 0)) none
           known b e = sym (a .remembered c (suc d) hc (omega arith) hd) ∙ ap (λ (z : Bool). cond z (some (getD k (place n (suc d - 1) c) 0)) none) e
 
-          by : (b : Bool) → isMarked m (place n (suc d + 1) c) ≡ b → (t : Bool) → w .stack c ≡ t → Same n D (cellDrawUnitsWith S n (suc d) visit c (some x) m k) (mappedCell walk (suc d) c (some x) w)
+          by : (b : Bool) → isMarked m (place n (suc d + 1) c) ≡ b → (t : Bool) → w .stack c ≡ t → Same n D (cellDrawUnitsWith S n (suc d) visit c (some x) k m) (mappedCell walk (suc d) c (some x) w)
           by true e t g = rw (known true e, deep d, e) (record { units = refl; agree = a })
           by false e true g = rw (known false e, deep d, e, a .counting c hc, g) (record { units = refl; agree = a })
-          by false e false g = rw (known false e, deep d, e, a .counting c hc, g) (counted-same m k w c x (suc d) a hc (omega arith) hd)
+          by false e false g = rw (known false e, deep d, e, a .counting c hc, g) (counted-same k m w c x (suc d) a hc (omega arith) hd)
 
-      missing-same : (m k : List ℕ) (w : Maps) (c d : ℕ) → Agree n D m k w → n ≤ c → Same n D (counted 1 m k) (mappedCell walk d c none w)
+      missing-same : (k m : List ℕ) (w : Maps) (c d : ℕ) → Agree n D k m w → n ≤ c → Same n D (counted 1 k m) (mappedCell walk d c none w)
       unfolding mappedCell freshCell mapOrOne
-      missing-same m k w c zero a hc = rw (a .shallow c) (record { units = refl; agree = a })
-      missing-same m k w c (suc d) a hc = by (w .cache c (suc d)) refl (w .stack c) refl
+      missing-same k m w c zero a hc = rw (a .shallow c) (record { units = refl; agree = a })
+      missing-same k m w c (suc d) a hc = by (w .cache c (suc d)) refl (w .stack c) refl
         where
-          by : (x : Option ℕ) → w .cache c (suc d) ≡ x → (t : Bool) → w .stack c ≡ t → Same n D (counted 1 m k) (mappedCell walk (suc d) c none w)
+          by : (x : Option ℕ) → w .cache c (suc d) ≡ x → (t : Bool) → w .stack c ≡ t → Same n D (counted 1 k m) (mappedCell walk (suc d) c none w)
           by (some v) e t g = rw e (record { units = sym (a .outside c (suc d) v hc e); agree = a })
           by none e true g = rw (e, deep d, g) (record { units = refl; agree = a })
-          by none e false g = rw (e, deep d, g) (record { units = refl; agree = missing-agree m k w a c hc (suc d) (omega arith) })
+          by none e false g = rw (e, deep d, g) (record { units = refl; agree = missing-agree k m w a c hc (suc d) (omega arith) })
 
-      cell-same : (c d : ℕ) (o : Option CellRecord) → S .cell c ≡ o → (m k : List ℕ) (w : Maps) → Agree n D m k w → d ≤ D → Same n D (cellDrawUnitsWith S n d visit c o m k) (mappedCell walk d c o w)
+      cell-same : (c d : ℕ) (o : Option CellRecord) → S .cell c ≡ o → (k m : List ℕ) (w : Maps) → Agree n D k m w → d ≤ D → Same n D (cellDrawUnitsWith S n d visit c o k m) (mappedCell walk d c o w)
       unfolding cellDrawUnitsWith
-      cell-same c d none e m k w a hd = missing-same m k w c d a (numbered .absent c e)
-      cell-same c d (some x) e m k w a hd = present-same m k w c x d a (numbered .present c x e) hd
+      cell-same c d none e k m w a hd = missing-same k m w c d a (numbered .absent c e)
+      cell-same c d (some x) e k m w a hd = present-same k m w c x d a (numbered .present c x e) hd
 
-      source-same : (x : PreparedSource) (m k : List ℕ) (w : Maps) (d : ℕ) → Agree n D m k w → d ≤ D → Same n D (sourceDrawUnitsWith S n d visit x m k) (mappedSource S d walk x w)
+      source-same : (x : PreparedSource) (k m : List ℕ) (w : Maps) (d : ℕ) → Agree n D k m w → d ≤ D → Same n D (sourceDrawUnitsWith S n d visit x k m) (mappedSource S d walk x w)
       unfolding sourceDrawUnitsWith mappedSource
-      source-same (Cell c) m k w d a hd = cell-same c d (S .cell c) refl m k w a hd
-      source-same (Reference r) m k w d a hd = hv r m k w a
-      source-same (Geometry b) m k w d a hd = record { units = refl; agree = a }
-      source-same (Text b) m k w d a hd = record { units = refl; agree = a }
-      source-same (Node b) m k w d a hd = record { units = refl; agree = a }
+      source-same (Cell c) k m w d a hd = cell-same c d (S .cell c) refl k m w a hd
+      source-same (Reference r) k m w d a hd = hv r k m w a
+      source-same (Geometry b) k m w d a hd = record { units = refl; agree = a }
+      source-same (Text b) k m w d a hd = record { units = refl; agree = a }
+      source-same (Node b) k m w d a hd = record { units = refl; agree = a }
 
-    reference-with-same : (d : ℕ) (visit : PreparedSource → List ℕ → List ℕ → Units) (walk : PreparedSource → Maps → Tally) → ((x : PreparedSource) (m k : List ℕ) (w : Maps) → Agree n D m k w → Same n D (visit x m k) (walk x w))
-        → (o : Option PreparedReference) (m k : List ℕ) (w : Maps) → Agree n D m k w → Same n D (referenceDrawUnitsWith d visit o m k) (mappedReferenceWith d walk o w)
+    reference-with-same : (d : ℕ) (visit : PreparedSource → List ℕ → List ℕ → Units) (walk : PreparedSource → Maps → Tally) → ((x : PreparedSource) (k m : List ℕ) (w : Maps) → Agree n D k m w → Same n D (visit x k m) (walk x w))
+        → (o : Option PreparedReference) (k m : List ℕ) (w : Maps) → Agree n D k m w → Same n D (referenceDrawUnitsWith d visit o k m) (mappedReferenceWith d walk o w)
     unfolding referenceDrawUnitsWith mappedReferenceWith
-    reference-with-same d visit walk hv none m k w a = record { units = refl; agree = a }
-    reference-with-same d visit walk hv (some r) m k w a = by (eqb (gridCount (r .grid)) 0) (leb d 1)
+    reference-with-same d visit walk hv none k m w a = record { units = refl; agree = a }
+    reference-with-same d visit walk hv (some r) k m w a = by (eqb (gridCount (r .grid)) 0) (leb d 1)
       where
         by : (b t : Bool)
             → let y = cond t (tally 1 w) (walk (r .source) w) in
-            Same n D (cond b (counted 0 m k) (cond t (scaled (gridCount (r .grid)) (counted 1 m k)) (scaled (gridCount (r .grid)) (visit (r .source) m k)))) (cond b (tally 0 w) (tally (saturate (gridCount (r .grid) * max (y .units) 1)) (y .maps)))
+            Same n D (cond b (counted 0 k m) (cond t (scaled (gridCount (r .grid)) (counted 1 k m)) (scaled (gridCount (r .grid)) (visit (r .source) k m)))) (cond b (tally 0 w) (tally (saturate (gridCount (r .grid) * max (y .units) 1)) (y .maps)))
         by true t = record { units = refl; agree = a }
         by false true = record { units = refl; agree = a }
-        by false false = record { units = ap (λ (u : ℕ). saturate (gridCount (r .grid) * max u 1)) (hv (r .source) m k w a .units); agree = hv (r .source) m k w a .agree }
+        by false false = record { units = ap (λ (u : ℕ). saturate (gridCount (r .grid) * max u 1)) (hv (r .source) k m w a .units); agree = hv (r .source) k m w a .agree }
 
     -- THE MEMORY: at every depth that a plan reaches, a reference counts the same over the places and over the maps, and the two agree afterwards
-    pub reference-same : (d : ℕ) → d ≤ D → (r : ℕ) (m k : List ℕ) (w : Maps) → Agree n D m k w → Same n D (referenceDrawUnits S n d r m k) (mappedReference S d r w)
+    pub reference-same : (d : ℕ) → d ≤ D → (r : ℕ) (k m : List ℕ) (w : Maps) → Agree n D k m w → Same n D (referenceDrawUnits S n d r k m) (mappedReference S d r w)
     unfolding referenceDrawUnits mappedReference
-    reference-same zero h r m k w a = reference-with-same zero _ _ (λ x m k w a. record { units = refl; agree = a }) (S .reference r) m k w a
-    reference-same (suc d) h r m k w a =
-        reference-with-same (suc d) _ _ (λ x m k w a. source-same (referenceDrawUnits S n d) (mappedReference S d) (reference-same d (omega arith)) x m k w d a (omega arith)) (S .reference r) m k w a
+    reference-same zero h r k m w a = reference-with-same zero _ _ (λ x k m w a. record { units = refl; agree = a }) (S .reference r) k m w a
+    reference-same (suc d) h r k m w a =
+        reference-with-same (suc d) _ _ (λ x k m w a. source-same (referenceDrawUnits S n d) (mappedReference S d) (reference-same d (omega arith)) x k m w d a (omega arith)) (S .reference r) k m w a

@@ -18,7 +18,7 @@ use Rattle.plan_rules.proofs.Memory.Maps.{emptyMaps}
 use Rattle.plan_rules.proofs.Memory.Faithful.{Agree, zeroed-agree, CellsBelow}
 
 -- the scratch of `freshPlan`
-pub fresh-agree : (n depth : ℕ) → Agree n depth (replicate (marksNamed n depth) 0) (replicate (countsNamed n depth) 0) emptyMaps
+pub fresh-agree : (n depth : ℕ) → Agree n depth (replicate (countsNamed n depth) 0) (replicate (marksNamed n depth) 0) emptyMaps
 unfolding marksNamed countsNamed
 fresh-agree n depth =
     subst (λ (k : ℕ). Agree n depth (replicate (n * (depth + 2)) 0) (replicate k 0) emptyMaps) (mul-comm depth n)

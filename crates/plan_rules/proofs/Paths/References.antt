@@ -49,7 +49,7 @@ module _ {P A : Type 0} (enter : Step → P → P) (emit : P → Event → ℕ �
     boxed-shallow r sb Absent = refl
     boxed-shallow r sb (Box x₀ y₀ x₁ y₁) =
         let size = referenceScreenSize (transformBbox p (bbox x₀ y₀ x₁ y₁)) (q .zoom) (sourceIsDegenerate sb) in
-        rw (collapses-shallow d shallow (size .width) (size .height) (gridCount (r .grid)) (referenceDrawUnits S cells d n (w .marks) (w .counts) .units))
+        rw (collapses-shallow d shallow (size .width) (size .height) (gridCount (r .grid)) (referenceDrawUnits S cells d n (w .counts) (w .marks) .units))
 
     sourced-shallow : (r : PreparedReference) (o : Bounds) → visitSourcedReference enter emit S cells q f d t n r p o w ≡ visitSourcedReference enter emit S cells q g d t n r p o w
     unfolding visitSourcedReference
@@ -107,7 +107,7 @@ module _ {P A : Type 0} (enter : Step → P → P) (emit : P → Event → ℕ �
           size = referenceScreenSize worldBox (q .zoom) (sourceIsDegenerate sourceBox)
 
           abbrev units : Units
-          units = referenceDrawUnits S cells d n (w .marks) (w .counts)
+          units = referenceDrawUnits S cells d n (w .counts) (w .marks)
 
           pub reference-culled : overlaps worldBox (q .view) ≡ false → visitReference enter emit S cells q d t n p w ≡ say enter emit t culledReference w
           unfolding visitBoxedReference

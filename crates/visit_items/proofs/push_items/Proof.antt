@@ -16,19 +16,19 @@ use Rattle.visit_items.proofs.push_items.Tie as tie
 -- ---- the worlds that the three loops leave, and the way back to each
 
 abbrev listed : tie.After-push-geometries → List ℕ → List ℕ → World (List ℕ)
-listed g m k = world (g .push-geometries .result .plan) (g .push-geometries .last .1 .1 .1 .1 .0) m k
+listed g k m = world (g .push-geometries .result .plan) (g .push-geometries .last .1 .1 .1 .1 .0) k m
 
 abbrev to-geometries : tie.Else1 → tie.After-push-geometries
 to-geometries i = i .before .before .before .before .before
 
 abbrev listed-texts : tie.After-push-texts → List ℕ → List ℕ → World (List ℕ)
-listed-texts t m k = world (t .push-texts .result .plan) (t .push-texts .last .1 .1 .1 .1 .0) m k
+listed-texts t k m = world (t .push-texts .result .plan) (t .push-texts .last .1 .1 .1 .1 .0) k m
 
 abbrev to-texts : tie.Else2 → tie.After-push-texts
 to-texts j = j .before .before .before .before .before
 
 abbrev listed-nodes : tie.After-push-nodes → List ℕ → List ℕ → World (List ℕ)
-listed-nodes n m k = world (n .push-nodes .result .plan) (n .push-nodes .last .1 .1 .1 .1 .0) m k
+listed-nodes n k m = world (n .push-nodes .result .plan) (n .push-nodes .last .1 .1 .1 .1 .0) k m
 
 same-length : (n : tie.After-push-nodes) → length (n .push-nodes .last .1 .1 .1 .1 .0) ≡ length (now (to-geometries (to-texts (n .before .before) .before .before) .before .before .before .before .before .args .out))
 same-length n =
@@ -41,14 +41,14 @@ same-length n =
 geometries-halt : tie.Need-returns
 geometries-halt c =
     let g = c .before .before .before .before .before in
-    λ cells visit m k. Body.geometries-halt _ _ _ _ _ _ _ visit _ (g .push-geometries .result .whole) (listed g m k) (g .push-geometries .ensures cells m k) (c .if1 .taken)
+    λ cells visit k m. Body.geometries-halt _ _ _ _ _ _ _ visit _ (g .push-geometries .result .whole) (listed g k m) (g .push-geometries .ensures cells k m) (c .if1 .taken)
 
 texts-halt : tie.Need-returns-2
 texts-halt c =
     let t = c .before .before .before .before .before in
     let i = t .before .before in
     let g = to-geometries i in
-    λ cells visit m k. Body.texts-halt _ _ _ _ _ _ _ visit _ (g .push-geometries .result .whole) (listed g m k) (g .push-geometries .ensures cells m k) (i .if1 .left) (t .push-texts .result .whole) (listed-texts t m k) (t .push-texts .ensures cells m k) (c .if2 .taken)
+    λ cells visit k m. Body.texts-halt _ _ _ _ _ _ _ visit _ (g .push-geometries .result .whole) (listed g k m) (g .push-geometries .ensures cells k m) (i .if1 .left) (t .push-texts .result .whole) (listed-texts t k m) (t .push-texts .ensures cells k m) (c .if2 .taken)
 
 nodes-halt : tie.Need-returns-3
 nodes-halt c =
@@ -57,7 +57,7 @@ nodes-halt c =
     let t = to-texts j in
     let i = t .before .before in
     let g = to-geometries i in
-    λ cells visit m k. Body.nodes-halt _ _ _ _ _ _ _ visit _ (g .push-geometries .result .whole) (listed g m k) (g .push-geometries .ensures cells m k) (i .if1 .left) (t .push-texts .result .whole) (listed-texts t m k) (t .push-texts .ensures cells m k) (j .if2 .left) (n .push-nodes .result .whole) (listed-nodes n m k) (n .push-nodes .ensures cells m k) (c .if3 .taken)
+    λ cells visit k m. Body.nodes-halt _ _ _ _ _ _ _ visit _ (g .push-geometries .result .whole) (listed g k m) (g .push-geometries .ensures cells k m) (i .if1 .left) (t .push-texts .result .whole) (listed-texts t k m) (t .push-texts .ensures cells k m) (j .if2 .left) (n .push-nodes .result .whole) (listed-nodes n k m) (n .push-nodes .ensures cells k m) (c .if3 .taken)
 
 all-listed : tie.Need-returns-4
 unfolding cellRecordAt
@@ -67,7 +67,7 @@ all-listed c =
     let t = to-texts j in
     let i = t .before .before in
     let g = to-geometries i in
-    λ cells visit m k. Body.all-listed _ _ _ _ _ _ _ visit _ (g .push-geometries .result .whole) (listed g m k) (g .push-geometries .ensures cells m k) (i .if1 .left) (t .push-texts .result .whole) (listed-texts t m k) (t .push-texts .ensures cells m k) (j .if2 .left) (n .push-nodes .result .whole) (listed-nodes n m k) (n .push-nodes .ensures cells m k) (c .before .if3 .left) _ (ap (λ (r : PreparedCell). r .references) (c .cell-at .ensures))
+    λ cells visit k m. Body.all-listed _ _ _ _ _ _ _ visit _ (g .push-geometries .result .whole) (listed g k m) (g .push-geometries .ensures cells k m) (i .if1 .left) (t .push-texts .result .whole) (listed-texts t k m) (t .push-texts .ensures cells k m) (j .if2 .left) (n .push-nodes .result .whole) (listed-nodes n k m) (n .push-nodes .ensures cells k m) (c .before .if3 .left) _ (ap (λ (r : PreparedCell). r .references) (c .cell-at .ensures))
 
 pub push-items-spec : {M : Type 1} → statement M
 push-items-spec =

@@ -11,12 +11,12 @@ use Rattle.planner.proofs.finish.finish.Tie as tie
 planned : tie.Need-returns
 planned c =
     let listed = c .before .before .before .before .list-totals in
-    λ m k. tape-fits (world (listed .result) (listed .last .0) m k) (c .if1 .taken) ∙ ap answered (listed .ensures m k)
+    λ k m. tape-fits (world (listed .result) (listed .last .0) k m) (c .if1 .taken) ∙ ap answered (listed .ensures k m)
 
 refused : tie.Need-returns-2
 refused c =
     let listed = c .before .before .before .before .before .before .before .before .list-totals in
-    λ m k. tape-exceeds (world (listed .result) (listed .last .0) m k) (c .before .before .before .before .if1 .left) (c .before .before .clear-bytes .ensures) ∙ ap answered (listed .ensures m k)
+    λ k m. tape-exceeds (world (listed .result) (listed .last .0) k m) (c .before .before .before .before .if1 .left) (c .before .before .clear-bytes .ensures) ∙ ap answered (listed .ensures k m)
 
 pub finish-spec : {M : Type 1} → statement M
 finish-spec =

@@ -19,7 +19,7 @@ use Rattle.planner.proofs.root.load_root.Tie as tie
 missing : tie.Need-returns
 missing c =
     let at-find = c .before .before in
-    λ n limit hidden m k. sym (root-missing noTag onTape _ _ _ tt _ (item-read cells _ _ (sym (at-find .find .ensures) ∙ c .enum-told .given .1)))
+    λ n limit hidden k m. sym (root-missing noTag onTape _ _ _ tt _ (item-read cells _ _ (sym (at-find .find .ensures) ∙ c .enum-told .given .1)))
 
 unboxed : tie.Need-returns-2
 unfolding cellRecordAt
@@ -29,7 +29,7 @@ unboxed c =
     let at-find = at-at .before .before in
     let there = item-read cells _ _ (sym (at-find .find .ensures) ∙ at-at .at .given .1) in
     let box = sym (ap (λ (r : PreparedCell). r .bbox) (at-cell-at .cell-at .ensures)) ∙ c .enum-told2 .given .1 in
-    λ n limit hidden m k. sym (root-unboxed noTag onTape _ _ _ tt _ _ there box)
+    λ n limit hidden k m. sym (root-unboxed noTag onTape _ _ _ tt _ _ there box)
 
 outside : tie.Need-returns-3
 unfolding cellRecordAt
@@ -44,7 +44,7 @@ outside c =
     let there = item-read cells _ _ (sym (at-find .find .ensures) ∙ at-at .at .given .1) in
     let box = sym (ap (λ (r : PreparedCell). r .bbox) (at-cell-at .cell-at .ensures)) ∙ at-bounds .bounds .given .1 in
     let unseen = sym (ap (λ (b : WorldBBox). overlaps b (a .query .view)) (at-new .new .ensures)) ∙ sym (at-overlaps .overlaps .ensures) ∙ not-true _ (c .if1 .taken) in
-    λ n limit hidden m k. sym (root-outside noTag onTape _ _ _ tt _ _ there _ _ _ _ box unseen)
+    λ n limit hidden k m. sym (root-outside noTag onTape _ _ _ tt _ _ there _ _ _ _ box unseen)
 
 loaded : tie.Need-returns-4
 unfolding cellRecordAt
@@ -61,9 +61,9 @@ loaded c =
     let there = item-read cells _ _ (sym (at-find .find .ensures) ∙ at-at .at .given .1) in
     let box = sym (ap (λ (r : PreparedCell). r .bbox) (at-cell-at .cell-at .ensures)) ∙ at-bounds .bounds .given .1 in
     let seen = sym (ap (λ (b : WorldBBox). overlaps b (a .query .view)) (at-new .new .ensures)) ∙ sym (at-overlaps .overlaps .ensures) ∙ not-false _ (at-if1 .if1 .left) in
-    λ n limit hidden m k.
-    at-add-load .add-load .ensures m k
-    ∙ ap (λ (b : WorldBBox). addLoad noTag onTape tt (a .query .root) b (world (a .plan) (now (a .out)) m k)) (at-new .new .ensures)
+    λ n limit hidden k m.
+    at-add-load .add-load .ensures k m
+    ∙ ap (λ (b : WorldBBox). addLoad noTag onTape tt (a .query .root) b (world (a .plan) (now (a .out)) k m)) (at-new .new .ensures)
     ∙ sym (root-loaded noTag onTape _ _ _ tt _ _ there _ _ _ _ box seen)
 
 pub load-root-spec : {M : Type 1} → statement M

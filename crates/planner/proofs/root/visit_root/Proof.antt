@@ -20,9 +20,9 @@ loaded c =
     let at-load-root = c .before .before in
     let at-if1 = at-load-root .before .before in
     let a = at-if1 .before .before .before .before .before .before .before .args in
-    let w = world (a .plan) (now (a .out)) (now (a .marks)) (now (a .counts)) in
+    let w = world (a .plan) (now (a .out)) (now (a .counts)) (now (a .marks)) in
     let nought : a .query .depth ≡ 0 = omega (arith, at-if1 .if1 .taken) in
-    at-load-root .load-root .ensures (a .cells) (a .object-limit) (now (a .hidden)) (now (a .marks)) (now (a .counts))
+    at-load-root .load-root .ensures (a .cells) (a .object-limit) (now (a .hidden)) (now (a .counts)) (now (a .marks))
     ∙ sym (ap (λ (d : ℕ). visitRoot noTag onTape (sheetOf (now (a .sheet))) (a .cells) (queryOf (a .query) (now (a .hidden)) (a .object-limit)) d tt w) nought)
 
 visited : tie.Need-returns-2
@@ -31,7 +31,7 @@ visited c =
     let at-identity = at-visit-cell .before in
     let at-if1 = at-identity .before .before .before .before in
     let a = at-if1 .before .before .before .before .before .before .before .args in
-    let w = world (a .plan) (now (a .out)) (now (a .marks)) (now (a .counts)) in
+    let w = world (a .plan) (now (a .out)) (now (a .counts)) (now (a .marks)) in
     at-visit-cell .visit-cell .ensures
     ∙ ap (λ (p : Placement). visitCell noTag onTape (sheetOf (now (a .sheet))) (a .cells) (queryOf (a .query) (now (a .hidden)) (a .object-limit)) (a .query .depth) tt (a .query .root) p w) (at-identity .identity .ensures)
     ∙ sym (root-visited noTag onTape _ _ _ tt _ _ (omega (arith, at-if1 .if1 .left)))

@@ -9,7 +9,7 @@ use Rattle.pushes.proofs.events.count_detail_cell.Tie as tie
 
 returns : tie.Need-returns
 unfolding say after _⊞_ onTape putRecord
-returns c = λ o m k. simp (c .saturating-add .ensures)
+returns c = λ o k m. simp (c .saturating-add .ensures)
 
 pub count-detail-cell-spec : {M : Type 1} → statement M
 count-detail-cell-spec = tie.close (tie.spec (λ c κs. search needs) returns)

@@ -9,7 +9,7 @@ use Rattle.pushes.proofs.events.count_skipped_batch.Tie as tie
 
 returns : tie.Need-returns
 unfolding say after _⊞_ onTape putRecord
-returns c = λ box o m k. simp (c .saturating-add .ensures)
+returns c = λ box o k m. simp (c .saturating-add .ensures)
 
 pub count-skipped-batch-spec : {M : Type 1} → statement M
 count-skipped-batch-spec = tie.close (tie.spec (λ c κs. search needs) returns)

@@ -9,7 +9,7 @@ use Rattle.pushes.proofs.events.count_skipped_member.Tie as tie
 
 returns : tie.Need-returns
 unfolding say after _⊞_ onTape putRecord
-returns c = λ degenerate box o m k. simp (c .saturating-add .ensures)
+returns c = λ degenerate box o k m. simp (c .saturating-add .ensures)
 
 pub count-skipped-member-spec : {M : Type 1} → statement M
 count-skipped-member-spec = tie.close (tie.spec (λ c κs. search needs) returns)

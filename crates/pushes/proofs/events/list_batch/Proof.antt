@@ -9,7 +9,7 @@ use Rattle.pushes.proofs.events.list_batch.Tie as tie
 
 returns : tie.Need-returns
 unfolding say after _⊞_ onTape
-returns c = λ m k. simp (c .saturating-add2 .ensures, c .before .saturating-add .ensures, c .before .before .before .before .write-batch .ensures)
+returns c = λ k m. simp (c .saturating-add2 .ensures, c .before .saturating-add .ensures, c .before .before .before .before .write-batch .ensures)
 
 pub list-batch-spec : {M : Type 1} → statement M
 list-batch-spec =

@@ -9,7 +9,7 @@ use Rattle.pushes.proofs.events.list_text.Tie as tie
 
 returns : tie.Need-returns
 unfolding say after _⊞_ onTape
-returns c = λ m k. simp (c .saturating-add3 .ensures, c .before .saturating-add2 .ensures, c .before .before .saturating-add .ensures, c .before .before .before .before .before .write-text .ensures)
+returns c = λ k m. simp (c .saturating-add3 .ensures, c .before .saturating-add2 .ensures, c .before .before .saturating-add .ensures, c .before .before .before .before .before .write-text .ensures)
 
 pub list-text-spec : {M : Type 1} → statement M
 list-text-spec =

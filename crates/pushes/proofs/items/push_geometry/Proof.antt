@@ -31,7 +31,7 @@ abbrev query : tie.After-geometry-at → Query
 query c = queryOf (start c .args .query) (now (start c .args .hidden)) (start c .args .object-limit)
 
 abbrev entered : tie.After-geometry-at → List ℕ → List ℕ → World (List ℕ)
-entered c m k = world (start c .args .plan) (now (start c .args .out)) m k
+entered c k m = world (start c .args .plan) (now (start c .args .out)) k m
 
 abbrev placed : tie.After-geometry-at → WorldBBox
 placed c = transformBbox (start c .args .transform) (c .geometry-at .result .bbox)
@@ -95,28 +95,28 @@ asked-budget c =
     sym (c .detail-budget-exhausted .ensures (a .query) (now (a .hidden)))
 
 -- a proxy of the code's box is one of the placed box
-proxied : (c : tie.Else2) (m k : List ℕ) → addLoad noTag onTape tt noLabel (c .before .before .transform-bbox .result) (entered (seen-batch c) m k) ≡ addLoad noTag onTape tt noLabel (placed (seen-batch c)) (entered (seen-batch c) m k)
-proxied c m k = ap (λ (b : WorldBBox). addLoad noTag onTape tt noLabel b (entered (seen-batch c) m k)) (boxed c)
+proxied : (c : tie.Else2) (k m : List ℕ) → addLoad noTag onTape tt noLabel (c .before .before .transform-bbox .result) (entered (seen-batch c) k m) ≡ addLoad noTag onTape tt noLabel (placed (seen-batch c)) (entered (seen-batch c) k m)
+proxied c k m = ap (λ (b : WorldBBox). addLoad noTag onTape tt noLabel b (entered (seen-batch c) k m)) (boxed c)
 
 -- ---- the ways out
 
 missing : tie.Need-returns
-missing c = λ m k. sym (geometry-missing noTag onTape _ _ tt _ _ _ (item-read geometries _ _ (sym (c .before .before .find .ensures) ∙ c .enum-told .given .1)))
+missing c = λ k m. sym (geometry-missing noTag onTape _ _ tt _ _ _ (item-read geometries _ _ (sym (c .before .before .find .ensures) ∙ c .enum-told .given .1)))
 
 hidden : tie.Need-returns-2
-hidden c = λ m k. sym (geometry-hidden noTag onTape _ _ tt _ _ _ _ (there (c .before .before)) (asked-hidden (c .before) ∙ c .if1 .taken))
+hidden c = λ k m. sym (geometry-hidden noTag onTape _ _ tt _ _ _ _ (there (c .before .before)) (asked-hidden (c .before) ∙ c .if1 .taken))
 
 culled : tie.Need-returns-3
 culled c =
     let asked = c .before .before in
     let e1 = asked .before .before in
-    λ m k. c .count-culled-batch .ensures _ m k ∙ sym (geometry-culled noTag onTape _ _ tt _ _ _ _ (there (shown-batch e1)) (shown e1) (asked-seen asked ∙ not-true _ (c .before .if2 .taken)))
+    λ k m. c .count-culled-batch .ensures _ k m ∙ sym (geometry-culled noTag onTape _ _ tt _ _ _ _ (there (shown-batch e1)) (shown e1) (asked-seen asked ∙ not-true _ (c .before .if2 .taken)))
 
 skipped : tie.Need-returns-4
 skipped c =
     let asked = c .before .before in
     let e2 = asked .before .before in
-    λ m k. c .count-skipped-batch .ensures _ _ m k ∙ sym (geometry-skipped noTag onTape _ _ tt _ _ _ _ (there (seen-batch e2)) (shown (e2 .before .before .before)) (seen e2) (asked-small asked ∙ c .before .if3 .taken))
+    λ k m. c .count-skipped-batch .ensures _ _ k m ∙ sym (geometry-skipped noTag onTape _ _ tt _ _ _ _ (there (seen-batch e2)) (shown (e2 .before .before .before)) (seen e2) (asked-small asked ∙ c .before .if3 .taken))
 
 dense : tie.Need-returns-5
 dense c =
@@ -124,8 +124,8 @@ dense c =
     let asked = added .before .before .before in
     let e3 = asked .before in
     let e2 = in-view e3 in
-    λ m k.
-    added .add-load .ensures m k ∙ proxied e2 m k
+    λ k m.
+    added .add-load .ensures k m ∙ proxied e2 k m
     ∙ sym (geometry-dense noTag onTape _ _ tt _ _ _ _ (there (seen-batch e2)) (shown (e2 .before .before .before)) (seen e2) (large e3) (asked-dense asked ∙ added .before .before .if4 .taken))
 
 exhausted : tie.Need-returns-6
@@ -135,8 +135,8 @@ exhausted c =
     let e4 = asked .before in
     let e3 = not-small e4 in
     let e2 = in-view e3 in
-    λ m k.
-    added .add-load2 .ensures m k ∙ proxied e2 m k
+    λ k m.
+    added .add-load2 .ensures k m ∙ proxied e2 k m
     ∙ sym (geometry-exhausted noTag onTape _ _ tt _ _ _ _ (there (seen-batch e2)) (shown (e2 .before .before .before)) (seen e2) (large e3) (sparse e4) (asked-budget asked ∙ added .before .before .if5 .taken))
 
 listed : tie.Need-returns-7
@@ -146,8 +146,8 @@ listed c =
     let e4 = asked .before in
     let e3 = not-small e4 in
     let e2 = in-view e3 in
-    λ m k.
-    put .list-batch .ensures m k
+    λ k m.
+    put .list-batch .ensures k m
     ∙ sym (geometry-listed noTag onTape _ _ tt _ _ _ _ (there (seen-batch e2)) (shown (e2 .before .before .before)) (seen e2) (large e3) (sparse e4) (asked-budget asked ∙ put .before .before .if5 .left))
 
 pub push-geometry-spec : {M : Type 1} → statement M

@@ -15,7 +15,7 @@ use Rattle.pushes.proofs.items.push_node.Tie as tie
 missing : tie.Need-returns
 missing c =
     let at-find = c .before .before in
-    λ m k. sym (node-missing noTag onTape _ _ tt _ _ _ (item-read nodes _ _ (sym (at-find .find .ensures) ∙ c .enum-told .given .1)))
+    λ k m. sym (node-missing noTag onTape _ _ tt _ _ _ (item-read nodes _ _ (sym (at-find .find .ensures) ∙ c .enum-told .given .1)))
 
 hidden : tie.Need-returns-2
 unfolding nodeRecordAt
@@ -27,7 +27,7 @@ hidden c =
     let start = at-find .before .before .before .before in
     let a = start .args in
     let there = item-read nodes _ _ (sym (at-find .find .ensures) ∙ at-at .at .given .1) in
-    λ m k. sym (node-hidden noTag onTape _ _ tt _ _ _ _ there (sym (ap (λ (x : PreparedNode). hides (queryOf (a .query) (now (a .hidden)) (a .object-limit)) (x .layer) (x .«node_type»)) (at-node-at .node-at .ensures)) ∙ sym (at-is-hidden .is-hidden .ensures (a .query) (a .object-limit)) ∙ c .if1 .taken))
+    λ k m. sym (node-hidden noTag onTape _ _ tt _ _ _ _ there (sym (ap (λ (x : PreparedNode). hides (queryOf (a .query) (now (a .hidden)) (a .object-limit)) (x .layer) (x .«node_type»)) (at-node-at .node-at .ensures)) ∙ sym (at-is-hidden .is-hidden .ensures (a .query) (a .object-limit)) ∙ c .if1 .taken))
 
 shown : tie.Need-returns-3
 unfolding nodeRecordAt
@@ -41,7 +41,7 @@ shown c =
     let start = at-find .before .before .before .before in
     let a = start .args in
     let there = item-read nodes _ _ (sym (at-find .find .ensures) ∙ at-at .at .given .1) in
-    λ m k. at-push-points .push-points .ensures (now (a .hidden)) m k ∙ sym (node-shown noTag onTape _ _ tt _ _ _ _ there (sym (ap (λ (x : PreparedNode). hides (queryOf (a .query) (now (a .hidden)) (a .object-limit)) (x .layer) (x .«node_type»)) (at-node-at .node-at .ensures)) ∙ sym (at-is-hidden .is-hidden .ensures (a .query) (a .object-limit)) ∙ at-if1 .if1 .left))
+    λ k m. at-push-points .push-points .ensures (now (a .hidden)) k m ∙ sym (node-shown noTag onTape _ _ tt _ _ _ _ there (sym (ap (λ (x : PreparedNode). hides (queryOf (a .query) (now (a .hidden)) (a .object-limit)) (x .layer) (x .«node_type»)) (at-node-at .node-at .ensures)) ∙ sym (at-is-hidden .is-hidden .ensures (a .query) (a .object-limit)) ∙ at-if1 .if1 .left))
 
 pub push-node-spec : {M : Type 1} → statement M
 push-node-spec =

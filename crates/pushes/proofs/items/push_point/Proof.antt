@@ -48,12 +48,12 @@ asked-budget c hidden = sym (c .detail-budget-exhausted .ensures (start (c .befo
 -- ---- the ways out
 
 outside : tie.Need-returns
-outside c = λ hidden m k. sym (point-outside noTag onTape _ _ tt _ (node (c .before .before .before)) _ _ (asked-inside (c .before) ∙ not-true _ (c .if1 .taken)))
+outside c = λ hidden k m. sym (point-outside noTag onTape _ _ tt _ (node (c .before .before .before)) _ _ (asked-inside (c .before) ∙ not-true _ (c .if1 .taken)))
 
 exhausted : tie.Need-returns-2
 exhausted c =
     let e1 = c .before .before in
-    λ hidden m k. sym (point-exhausted noTag onTape _ _ tt _ (node (e1 .before .before .before)) _ _ (inside e1) (asked-budget (c .before) hidden ∙ c .if2 .taken))
+    λ hidden k m. sym (point-exhausted noTag onTape _ _ tt _ (node (e1 .before .before .before)) _ _ (inside e1) (asked-budget (c .before) hidden ∙ c .if2 .taken))
 
 listed : tie.Need-returns-3
 unfolding nodeRecordAt
@@ -64,10 +64,10 @@ listed c =
     let e1 = asked .before in
     let x = e1 .before .before .before in
     let a = start x .args in
-    λ hidden m k.
+    λ hidden k m.
     ap go
-    (put .list-point .ensures m k
-    ∙ ap₂ (λ (x : PreparedNode) (v : DVec2). say noTag onTape tt (point (x .layer) (x .«node_type») v) (world (a .plan) (now (a .out)) m k)) (read .node-at .ensures) (placed (e1 .before .before)))
+    (put .list-point .ensures k m
+    ∙ ap₂ (λ (x : PreparedNode) (v : DVec2). say noTag onTape tt (point (x .layer) (x .«node_type») v) (world (a .plan) (now (a .out)) k m)) (read .node-at .ensures) (placed (e1 .before .before)))
     ∙ sym (point-listed noTag onTape _ _ tt _ (node x) (a .i) _ (inside e1) (asked-budget asked hidden ∙ read .before .if2 .left))
 
 pub push-point-spec : {M : Type 1} → statement M

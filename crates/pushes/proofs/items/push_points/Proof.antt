@@ -22,29 +22,29 @@ abbrev Inv-loop : tie.InvT-loop
 Inv-loop sheet query limit out₀ at transform count next₀ i₀ out next i =
     (i ≤ count)
     × (length out ≡ length out₀)
-    × ((hidden m k : List ℕ) → each (pushPoint noTag onTape (sheetOf sheet) (queryOf query hidden limit) tt transform (nodeRecordAt sheet at)) (count - i) i (world next out m k) ≡ each (pushPoint noTag onTape (sheetOf sheet) (queryOf query hidden limit) tt transform (nodeRecordAt sheet at)) (nodeRecordAt sheet at .count) 0 (world next₀ out₀ m k))
+    × ((hidden k m : List ℕ) → each (pushPoint noTag onTape (sheetOf sheet) (queryOf query hidden limit) tt transform (nodeRecordAt sheet at)) (count - i) i (world next out k m) ≡ each (pushPoint noTag onTape (sheetOf sheet) (queryOf query hidden limit) tt transform (nodeRecordAt sheet at)) (nodeRecordAt sheet at .count) 0 (world next₀ out₀ k m))
 
 abbrev μ-loop : tie.MeasureT-loop
 μ-loop sheet query limit out₀ at transform count next₀ i₀ out next i = count - i
 
 loop-holds : tie.Need-loop-holds Inv-loop μ-loop
 unfolding nodeRecordAt
-loop-holds c = (omega arith, refl, λ hidden m k. each-from _ _ _ _ (ap (λ (x : PreparedNode). x .points) (c .node-at .ensures)))
+loop-holds c = (omega arith, refl, λ hidden k m. each-from _ _ _ _ (ap (λ (x : PreparedNode). x .points) (c .node-at .ensures)))
 
 halts : tie.Need-returns Inv-loop μ-loop
 halts c =
     let at-push-point = c .before .before .before .before .before in
     let at-loop-test = at-push-point .before .before in
     let at-loop = at-loop-test .before in
-    λ hidden m k. sym
-    (sym (at-loop .loop .inv .2 hidden m k)
+    λ hidden k m. sym
+    (sym (at-loop .loop .inv .2 hidden k m)
     ∙ each-halt _ _ (at-loop .loop .i) _ _ (at-loop-test .loop-test .taken)
-    (sym (at-push-point .push-point .ensures hidden m k) ∙ (ap (λ (b : Bool). flow b (world (at-push-point .push-point .result .plan) (at-push-point .push-point .last .1 .1 .1 .0) m k)) (not-true (at-push-point .push-point .result .whole) (c .if1 .taken)))))
+    (sym (at-push-point .push-point .ensures hidden k m) ∙ (ap (λ (b : Bool). flow b (world (at-push-point .push-point .result .plan) (at-push-point .push-point .last .1 .1 .1 .0) k m)) (not-true (at-push-point .push-point .result .whole) (c .if1 .taken)))))
 
 done : tie.Need-returns-2 Inv-loop μ-loop
 done c =
     let at-loop = c .before in
-    λ hidden m k. sym (sym (at-loop .loop .inv .2 hidden m k) ∙ each-done _ _ (at-loop .loop .i) _ (c .loop-test .left))
+    λ hidden k m. sym (sym (at-loop .loop .inv .2 hidden k m) ∙ each-done _ _ (at-loop .loop .i) _ (c .loop-test .left))
 
 next-fits : tie.Need-add-i Inv-loop μ-loop
 next-fits c =
@@ -59,10 +59,10 @@ loop-again c =
     let at-loop = at-loop-test .before in (
       omega arith,
       search (needs, at-loop .loop .inv .1, at-push-point .push-point .kept .1 .1 .1 .0),
-      λ hidden m k.
+      λ hidden k m.
           sym (each-go _ _ (at-loop .loop .i) _ _ (at-loop-test .loop-test .taken)
-          (sym (at-push-point .push-point .ensures hidden m k) ∙ (ap (λ (b : Bool). flow b (world (at-push-point .push-point .result .plan) (at-push-point .push-point .last .1 .1 .1 .0) m k)) (not-false (at-push-point .push-point .result .whole) (c .if1 .left)))))
-          ∙ at-loop .loop .inv .2 hidden m k,
+          (sym (at-push-point .push-point .ensures hidden k m) ∙ (ap (λ (b : Bool). flow b (world (at-push-point .push-point .result .plan) (at-push-point .push-point .last .1 .1 .1 .0) k m)) (not-false (at-push-point .push-point .result .whole) (c .if1 .left)))))
+          ∙ at-loop .loop .inv .2 hidden k m,
     )
 
 pub push-points-spec : {M : Type 1} → statement M

@@ -47,15 +47,15 @@ asked-inside c = sym (c .point-in-bbox .ensures ∙ ap (λ (v : DVec2). pointInB
 -- ---- the ways out
 
 missing : tie.Need-returns
-missing c = λ limit m k. sym (text-missing noTag onTape _ _ tt _ _ _ (item-read texts _ _ (sym (c .before .before .find .ensures) ∙ c .enum-told .given .1)))
+missing c = λ limit k m. sym (text-missing noTag onTape _ _ tt _ _ _ (item-read texts _ _ (sym (c .before .before .find .ensures) ∙ c .enum-told .given .1)))
 
 hidden : tie.Need-returns-2
-hidden c = λ limit m k. sym (text-hidden noTag onTape _ _ tt _ _ _ _ (there (c .before .before)) (asked-hidden (c .before) limit ∙ c .if1 .taken))
+hidden c = λ limit k m. sym (text-hidden noTag onTape _ _ tt _ _ _ _ (there (c .before .before)) (asked-hidden (c .before) limit ∙ c .if1 .taken))
 
 outside : tie.Need-returns-3
 outside c =
     let e1 = c .before .before .before in
-    λ limit m k. sym (text-outside noTag onTape _ _ tt _ _ _ _ (there (text-read e1)) (asked-hidden (e1 .before) limit ∙ e1 .if1 .left) (asked-inside (c .before) ∙ not-true _ (c .if2 .taken)))
+    λ limit k m. sym (text-outside noTag onTape _ _ tt _ _ _ _ (there (text-read e1)) (asked-hidden (e1 .before) limit ∙ e1 .if1 .left) (asked-inside (c .before) ∙ not-true _ (c .if2 .taken)))
 
 listed : tie.Need-returns-4
 listed c =
@@ -63,9 +63,9 @@ listed c =
     let e2 = put .before .before in
     let e1 = e2 .before .before .before in
     let a = start (text-read e1) .args in
-    λ limit m k.
-    put .list-text .ensures m k
-    ∙ ap (λ (v : DVec2). say noTag onTape tt (text (a .number) v) (world (a .plan) (now (a .out)) m k)) (placed (e2 .before .before))
+    λ limit k m.
+    put .list-text .ensures k m
+    ∙ ap (λ (v : DVec2). say noTag onTape tt (text (a .number) v) (world (a .plan) (now (a .out)) k m)) (placed (e2 .before .before))
     ∙ sym (text-listed noTag onTape _ _ tt _ _ _ _ (there (text-read e1)) (asked-hidden (e1 .before) limit ∙ e1 .if1 .left) (asked-inside (e2 .before) ∙ not-false _ (e2 .if2 .left)))
 
 pub push-text-spec : {M : Type 1} → statement M

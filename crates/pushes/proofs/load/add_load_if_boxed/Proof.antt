@@ -15,7 +15,7 @@ absent : tie.Need-returns
 absent c =
     let start = c .before .before .before in
     let a = start .args in
-    λ m k. sym (ap (λ (x : Bounds). addLoadIfBoxed noTag onTape tt (a .label) x (world (a .plan) (now (a .out)) m k)) (c .enum-told .given .1))
+    λ k m. sym (ap (λ (x : Bounds). addLoadIfBoxed noTag onTape tt (a .label) x (world (a .plan) (now (a .out)) k m)) (c .enum-told .given .1))
 
 boxed : tie.Need-returns-2
 boxed c =
@@ -24,10 +24,10 @@ boxed c =
     let at-bounds = at-new .before .before .before in
     let start = at-bounds .before .before .before in
     let a = start .args in
-    λ m k.
-    at-add-load .add-load .ensures m k
-    ∙ ap (λ (b : WorldBBox). addLoad noTag onTape tt (a .label) b (world (a .plan) (now (a .out)) m k)) (at-new .new .ensures)
-    ∙ sym (ap (λ (x : Bounds). addLoadIfBoxed noTag onTape tt (a .label) x (world (a .plan) (now (a .out)) m k)) (at-bounds .bounds .given .1))
+    λ k m.
+    at-add-load .add-load .ensures k m
+    ∙ ap (λ (b : WorldBBox). addLoad noTag onTape tt (a .label) b (world (a .plan) (now (a .out)) k m)) (at-new .new .ensures)
+    ∙ sym (ap (λ (x : Bounds). addLoadIfBoxed noTag onTape tt (a .label) x (world (a .plan) (now (a .out)) k m)) (at-bounds .bounds .given .1))
 
 pub add-load-if-boxed-spec : {M : Type 1} → statement M
 add-load-if-boxed-spec =

@@ -16,7 +16,7 @@ Inv-loop sheet cells counts₀ marks₀ cell depth at references count₀ i₀ c
     (i ≤ references)
     × (length counts ≡ length counts₀)
     × (length marks ≡ length marks₀)
-    × (fold (Exits.addedAt sheet cells depth at) references 0 (counted count₀ marks₀ counts₀) ≡ fold (Exits.addedAt sheet cells depth at) (references - i) i (counted count marks counts))
+    × (fold (Exits.addedAt sheet cells depth at) references 0 (counted count₀ counts₀ marks₀) ≡ fold (Exits.addedAt sheet cells depth at) (references - i) i (counted count counts marks))
 
 abbrev pub μ-loop : lts.MeasureT-loop
 μ-loop sheet cells counts₀ marks₀ cell depth at references count₀ i₀ counts marks count i = references - i
@@ -26,14 +26,14 @@ module _ (t : ℕ) where
   missing c =
       let after-find = c .before .before in
       let start = after-find .before .before .before .before in
-      Exits.cell-missing (start .args .sheet .now) (start .args .cells) (start .args .depth) (start .args .cell) (start .args .marks .now) (start .args .counts .now) (sym (after-find .find .ensures) ∙ c .enum-told .given .1)
+      Exits.cell-missing (start .args .sheet .now) (start .args .cells) (start .args .depth) (start .args .cell) (start .args .counts .now) (start .args .marks .now) (sym (after-find .find .ensures) ∙ c .enum-told .given .1)
 
   pub depth-zero : lts.Need-returns-2 (cell-claims t) (cell-at t) cell.Post Inv-loop μ-loop
   depth-zero c =
       let after-at = c .before .before in
       let after-find = after-at .before .before in
       let start = after-find .before .before .before .before in
-      Exits.cell-depth-zero (start .args .sheet .now) (start .args .cells) (start .args .depth) (start .args .cell) (start .args .marks .now) (start .args .counts .now)
+      Exits.cell-depth-zero (start .args .sheet .now) (start .args .cells) (start .args .depth) (start .args .cell) (start .args .counts .now) (start .args .marks .now)
       (after-at .at .given .0 .0) (sym (after-find .find .ensures) ∙ after-at .at .given .1) (c .if1 .taken)
 
   pub remembered : lts.Need-returns-3 (cell-claims t) (cell-at t) cell.Post Inv-loop μ-loop
@@ -44,7 +44,7 @@ module _ (t : ℕ) where
       let after-at = after-if1 .before .before in
       let after-find = after-at .before .before in
       let start = after-find .before .before .before .before in
-      Exits.cell-remembered (start .args .sheet .now) (start .args .cells) (start .args .depth) (start .args .cell) (start .args .marks .now) (start .args .counts .now)
+      Exits.cell-remembered (start .args .sheet .now) (start .args .cells) (start .args .depth) (start .args .cell) (start .args .counts .now) (start .args .marks .now)
       (after-at .at .given .0 .0) (sym (after-find .find .ensures) ∙ after-at .at .given .1) (after-if1 .if1 .left)
       (c .cache-get .result) (sym (after-cache-contains .cache-contains .ensures) ∙ after-if2 .if2 .taken) (c .cache-get .ensures)
 
@@ -57,7 +57,7 @@ module _ (t : ℕ) where
       let after-at = after-if1 .before .before in
       let after-find = after-at .before .before in
       let start = after-find .before .before .before .before in
-      Exits.cell-circle (start .args .sheet .now) (start .args .cells) (start .args .depth) (start .args .cell) (start .args .marks .now) (start .args .counts .now)
+      Exits.cell-circle (start .args .sheet .now) (start .args .cells) (start .args .depth) (start .args .cell) (start .args .counts .now) (start .args .marks .now)
       (after-at .at .given .0 .0) (sym (after-find .find .ensures) ∙ after-at .at .given .1) (after-if1 .if1 .left) (sym (after-cache-contains .cache-contains .ensures) ∙ after-if2 .if2 .left)
       (sym (after-stack-contains .stack-contains .ensures) ∙ c .if3 .taken)
 
@@ -80,7 +80,7 @@ module _ (t : ℕ) where
         after-reference-draw-units .reference-draw-units .kept .1 .1 .1 .0 ∙ after-loop .loop .inv .2,
         after-loop .loop .inv .3 ∙ fold-turn _ _ (after-loop .loop .i) _ _ (after-loop-test .loop-test .taken)
             (Exits.reference-added _ _ _ _ (after-loop .loop .i) (after-cell-reference-at .cell-reference-at .result) (after-loop .loop .count) (after-reference-draw-units .reference-draw-units .result) (c .saturating-add .result)
-            (after-loop .loop .marks) (after-loop .loop .counts) (after-reference-draw-units .reference-draw-units .last .1 .1 .1 .0) (after-reference-draw-units .reference-draw-units .last .1 .1 .0)
+            (after-loop .loop .counts) (after-loop .loop .marks) (after-reference-draw-units .reference-draw-units .last .1 .1 .1 .0) (after-reference-draw-units .reference-draw-units .last .1 .1 .0)
             (after-cell-reference-at .cell-reference-at .ensures) (after-reference-draw-units .reference-draw-units .ensures) (c .saturating-add .ensures)),
       )
 
@@ -100,7 +100,7 @@ module _ (t : ℕ) where
       let after-at = after-if1 .before .before in
       let after-find = after-at .before .before in
       let start = after-find .before .before .before .before in
-      Exits.cell-counted (start .args .sheet .now) (start .args .cells) (start .args .depth) (start .args .cell) (start .args .marks .now) (start .args .counts .now)
+      Exits.cell-counted (start .args .sheet .now) (start .args .cells) (start .args .depth) (start .args .cell) (start .args .counts .now) (start .args .marks .now)
       (after-at .at .given .0 .0) (sym (after-find .find .ensures) ∙ after-at .at .given .1) (after-if1 .if1 .left) (sym (after-cache-contains .cache-contains .ensures) ∙ after-if2 .if2 .left)
       (after-cell-at .cell-at .result) (after-loop .loop .count)
       (after-stack-insert .stack-insert .last .0) (after-loop .loop .marks) (after-stack-remove .stack-remove .last .0) (after-cache-insert .cache-insert .last .1 .0) (after-loop .loop .counts) (after-cache-insert .cache-insert .last .0)

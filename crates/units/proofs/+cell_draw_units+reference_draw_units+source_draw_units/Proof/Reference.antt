@@ -11,7 +11,7 @@ module _ (t : ℕ) where
   missing c =
       let after-find = c .before .before in
       let start = after-find .before .before .before .before in
-      Exits.reference-missing (start .args .sheet .now) (start .args .cells) (start .args .depth) (start .args .number) (start .args .marks .now) (start .args .counts .now) (sym (after-find .find .ensures) ∙ c .enum-told .given .1)
+      Exits.reference-missing (start .args .sheet .now) (start .args .cells) (start .args .depth) (start .args .number) (start .args .counts .now) (start .args .marks .now) (sym (after-find .find .ensures) ∙ c .enum-told .given .1)
 
   pub empty : lts.Need-returns-2 (reference-claims t) (reference-at t) reference.Post
   empty c =
@@ -20,7 +20,7 @@ module _ (t : ℕ) where
       let after-at = after-reference-at .before .before in
       let after-find = after-at .before .before in
       let start = after-find .before .before .before .before in
-      Exits.reference-empty (start .args .sheet .now) (start .args .cells) (start .args .depth) (start .args .number) (start .args .marks .now) (start .args .counts .now)
+      Exits.reference-empty (start .args .sheet .now) (start .args .cells) (start .args .depth) (start .args .number) (start .args .counts .now) (start .args .marks .now)
       (after-at .at .given .0 .0) (sym (after-find .find .ensures) ∙ after-at .at .given .1)
       (after-reference-at .reference-at .result) (after-reference-at .reference-at .ensures) (after-grid-count .grid-count .result) (after-grid-count .grid-count .ensures) (c .if1 .taken)
 
@@ -33,7 +33,7 @@ module _ (t : ℕ) where
       let after-at = after-reference-at .before .before in
       let after-find = after-at .before .before in
       let start = after-find .before .before .before .before in
-      Exits.reference-shallow (start .args .sheet .now) (start .args .cells) (start .args .depth) (start .args .number) (start .args .marks .now) (start .args .counts .now)
+      Exits.reference-shallow (start .args .sheet .now) (start .args .cells) (start .args .depth) (start .args .number) (start .args .counts .now) (start .args .marks .now)
       (after-at .at .given .0 .0) (sym (after-find .find .ensures) ∙ after-at .at .given .1)
       (after-reference-at .reference-at .result) (after-reference-at .reference-at .ensures) (after-grid-count .grid-count .result) (after-grid-count .grid-count .ensures) (after-if1 .if1 .left)
       (c .scaled .result) (after-if2 .if2 .taken) (c .scaled .ensures)
@@ -48,7 +48,7 @@ module _ (t : ℕ) where
       let after-at = after-reference-at .before .before in
       let after-find = after-at .before .before in
       let start = after-find .before .before .before .before in
-      Exits.reference-deep (start .args .sheet .now) (start .args .cells) (start .args .depth) (start .args .number) (start .args .marks .now) (start .args .counts .now)
+      Exits.reference-deep (start .args .sheet .now) (start .args .cells) (start .args .depth) (start .args .number) (start .args .counts .now) (start .args .marks .now)
       (after-at .at .given .0 .0) (sym (after-find .find .ensures) ∙ after-at .at .given .1)
       (after-reference-at .reference-at .result) (after-reference-at .reference-at .ensures) (after-grid-count .grid-count .result) (after-grid-count .grid-count .ensures) (after-if1 .if1 .left)
       (after-source-draw-units .source-draw-units .result) (c .scaled2 .result) _ _ (after-if2 .if2 .left) (after-source-draw-units .source-draw-units .ensures) (c .scaled2 .ensures)

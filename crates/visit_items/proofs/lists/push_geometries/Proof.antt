@@ -36,7 +36,7 @@ loop-again c =
     let read = pushed .before .before in
     let asked = read .before .before in
     CellLoop.goes (asked .before .before .loop .inv) (asked .before .loop-test .taken) (asked .detail-budget-exhausted .ensures) (read .before .if1 .left)
-    (read .cell-geometry-at .ensures) (λ m k. ap go (sym (pushed .push-geometry .ensures m k))) (pushed .push-geometry .kept .1 .1 .1 .1 .0)
+    (read .cell-geometry-at .ensures) (λ k m. ap go (sym (pushed .push-geometry .ensures k m))) (pushed .push-geometry .kept .1 .1 .1 .1 .0)
 
 pub push-geometries-spec : {M : Type 1} → statement M
 push-geometries-spec =

@@ -29,9 +29,9 @@ exhausted c =
     CellLoop.exhausted (asked .before .before .loop .inv) (asked .before .loop-test .taken) (asked .detail-budget-exhausted .ensures) (added .before .before .if1 .taken) (added .add-load-if-boxed .ensures)
 
 -- a node by the `bool` that its push returned
-by-flow : (c : tie.After-push-node Inv μ) {b : Bool} → c .push-node .result .whole ≡ b → (m k : List ℕ)
-    → let v = world (c .push-node .result .plan) (c .push-node .last .1 .1 .1 .1 .0) m k in flow (c .push-node .result .whole) v ≡ flow b v
-by-flow c e m k = ap (λ (b : Bool). flow b (world (c .push-node .result .plan) (c .push-node .last .1 .1 .1 .1 .0) m k)) e
+by-flow : (c : tie.After-push-node Inv μ) {b : Bool} → c .push-node .result .whole ≡ b → (k m : List ℕ)
+    → let v = world (c .push-node .result .plan) (c .push-node .last .1 .1 .1 .1 .0) k m in flow (c .push-node .result .whole) v ≡ flow b v
+by-flow c e k m = ap (λ (b : Bool). flow b (world (c .push-node .result .plan) (c .push-node .last .1 .1 .1 .1 .0) k m)) e
 
 same-length : tie.Need-same-length-2 Inv μ
 same-length c =
@@ -49,7 +49,7 @@ halts c =
     let read = pushed .before .before in
     let asked = read .before .before in
     CellLoop.halts (asked .before .before .loop .inv) (asked .before .loop-test .taken) (asked .detail-budget-exhausted .ensures) (read .before .if1 .left)
-    (read .cell-node-at .ensures) (λ m k. sym (pushed .push-node .ensures m k) ∙ by-flow pushed (not-true _ (tested .if2 .taken)) m k) (added .add-load-if-boxed2 .ensures)
+    (read .cell-node-at .ensures) (λ k m. sym (pushed .push-node .ensures k m) ∙ by-flow pushed (not-true _ (tested .if2 .taken)) k m) (added .add-load-if-boxed2 .ensures)
 
 next-fits : tie.Need-add-i Inv μ
 next-fits c =
@@ -63,7 +63,7 @@ loop-again c =
     let read = pushed .before .before in
     let asked = read .before .before in
     CellLoop.goes (asked .before .before .loop .inv) (asked .before .loop-test .taken) (asked .detail-budget-exhausted .ensures) (read .before .if1 .left)
-    (read .cell-node-at .ensures) (λ m k. sym (pushed .push-node .ensures m k) ∙ by-flow pushed (not-false _ (c .if2 .left)) m k) (pushed .push-node .kept .1 .1 .1 .1 .0)
+    (read .cell-node-at .ensures) (λ k m. sym (pushed .push-node .ensures k m) ∙ by-flow pushed (not-false _ (c .if2 .left)) k m) (pushed .push-node .kept .1 .1 .1 .1 .0)
 
 pub push-nodes-spec : {M : Type 1} → statement M
 push-nodes-spec =

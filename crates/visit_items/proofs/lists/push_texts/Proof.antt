@@ -36,7 +36,7 @@ loop-again c =
     let read = pushed .before .before in
     let asked = read .before .before in
     CellLoop.goes (asked .before .before .loop .inv) (asked .before .loop-test .taken) (asked .detail-budget-exhausted .ensures) (read .before .if1 .left)
-    (read .cell-text-at .ensures) (λ m k. ap go (sym (pushed .push-text .ensures (pushed .before .before .before .before .before .before .before .before .before .before .before .args .object-limit) m k))) (pushed .push-text .kept .1 .1 .1 .0)
+    (read .cell-text-at .ensures) (λ k m. ap go (sym (pushed .push-text .ensures (pushed .before .before .before .before .before .before .before .before .before .before .before .args .object-limit) k m))) (pushed .push-text .kept .1 .1 .1 .0)
 
 pub push-texts-spec : {M : Type 1} → statement M
 push-texts-spec =

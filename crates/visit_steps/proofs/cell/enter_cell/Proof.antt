@@ -42,7 +42,7 @@ boxed c =
     let else1 = at-full .before in
     let a = else1 .before .before .before .before .before .before .before .args in
     λ S hidden visit k.
-    let added = at-add .add-load-if-boxed .ensures (now (a .marks)) k in
+    let added = at-add .add-load-if-boxed .ensures k (now (a .marks)) in
     ⊎-elim
     (λ w. cell-detail-full S _ _ visit _ _ _ _ _ (placed (else1 .before .before)) (inside else1 hidden) _ added (sym (at-full .detail-cells-full .ensures) ∙ w .taken))
     (⊎-elim
@@ -66,7 +66,7 @@ entered c =
     (sym (at-full .detail-cells-full .ensures) ∙ else2 .if2 .left)
     (sym (at-exhausted .detail-budget-exhausted .ensures (a .query) hidden) ∙ else3 .if3 .left)
     (sym (at-contains .stack-contains .ensures) ∙ else4 .if4 .left) _
-    (c .count-detail-cell .ensures _ _ k ∙ ap (λ (m : List ℕ). say noTag onTape tt detailCell (world (a .plan) (now (a .out)) m k)) (at-insert .stack-insert .ensures))
+    (c .count-detail-cell .ensures _ _ k ∙ ap (λ (m : List ℕ). say noTag onTape tt detailCell (world (a .plan) (now (a .out)) k m)) (at-insert .stack-insert .ensures))
 
 pub enter-cell-spec : {M : Type 1} → statement M
 enter-cell-spec =

@@ -33,9 +33,9 @@ exhausted c =
     let at-label = at-budget .before in
     let start = at-label .before .before .before .before .before .before .before in
     let a = start .args in
-    λ S cells hidden visit m k.
+    λ S cells hidden visit k m.
     try-exhausted S cells _ visit _ _ _ _ _ _ _ _ _ _ (at-label .label .ensures) _ (at-budget .detail-budget-exhausted .ensures (a .query) hidden)
-    (at-if1 .if1 .taken) _ (at-add-load .add-load .ensures m k)
+    (at-if1 .if1 .taken) _ (at-add-load .add-load .ensures k m)
 
 culled : tie.Need-returns-2
 culled c =
@@ -49,10 +49,10 @@ culled c =
     let at-grid-member-transform = at-mul .before in
     let start = at-grid-member-transform .before .before .before .before in
     let a = start .args in
-    λ S cells hidden visit m k.
+    λ S cells hidden visit k m.
     try-culled S cells _ visit _ _ _ _ _ _ _ _ _ _ (at-label .label .ensures) _ (at-budget .detail-budget-exhausted .ensures (a .query) hidden)
     (at-if1 .if1 .left) _ (at-grid-member-transform .grid-member-transform .ensures) _ (at-mul .mul .ensures) _ (at-transform-bbox .transform-bbox .ensures) _ (at-overlaps .overlaps .ensures)
-    (at-if2 .if2 .taken) _ (c .count-culled-reference .ensures _ m k)
+    (at-if2 .if2 .taken) _ (c .count-culled-reference .ensures _ k m)
 
 skipped : tie.Need-returns-3
 skipped c =
@@ -70,11 +70,11 @@ skipped c =
     let at-grid-member-transform = at-mul .before in
     let start = at-grid-member-transform .before .before .before .before in
     let a = start .args in
-    λ S cells hidden visit m k.
+    λ S cells hidden visit k m.
     try-skipped S cells _ visit _ _ _ _ _ _ _ _ _ _ (at-label .label .ensures) _ (at-budget .detail-budget-exhausted .ensures (a .query) hidden)
     (at-if1 .if1 .left) _ (at-grid-member-transform .grid-member-transform .ensures) _ (at-mul .mul .ensures) _ (at-transform-bbox .transform-bbox .ensures) _ (at-overlaps .overlaps .ensures)
     (at-if2 .if2 .left) _ (at-degenerate .source-is-degenerate .ensures) _ (at-size .reference-screen-size .ensures) _ (at-subpixel .is-subpixel .ensures)
-    (at-if3 .if3 .taken) _ (λ g b. c .count-skipped-member .ensures g b _ m k)
+    (at-if3 .if3 .taken) _ (λ g b. c .count-skipped-member .ensures g b _ k m)
 
 collapsed : tie.Need-returns-4
 collapsed c =
@@ -95,12 +95,12 @@ collapsed c =
     let at-grid-member-transform = at-mul .before in
     let start = at-grid-member-transform .before .before .before .before in
     let a = start .args in
-    λ S cells hidden visit m k.
+    λ S cells hidden visit k m.
     try-collapsed S cells _ visit _ _ _ _ _ _ _ _ _ _ (at-label .label .ensures) _ (at-budget .detail-budget-exhausted .ensures (a .query) hidden)
     (at-if1 .if1 .left) _ (at-grid-member-transform .grid-member-transform .ensures) _ (at-mul .mul .ensures) _ (at-transform-bbox .transform-bbox .ensures) _ (at-overlaps .overlaps .ensures)
     (at-if2 .if2 .left) _ (at-degenerate .source-is-degenerate .ensures) _ (at-size .reference-screen-size .ensures) _ (at-subpixel .is-subpixel .ensures)
     (at-if3 .if3 .left) _ (at-collapse .should-collapse-reference .ensures)
-    (at-if4 .if4 .taken) _ (at-add-load .add-load2 .ensures m k)
+    (at-if4 .if4 .taken) _ (at-add-load .add-load2 .ensures k m)
 
 opens : tie.Need-returns-5
 opens c =
@@ -119,7 +119,7 @@ opens c =
     let at-grid-member-transform = at-mul .before in
     let start = at-grid-member-transform .before .before .before .before in
     let a = start .args in
-    λ S cells hidden visit m k.
+    λ S cells hidden visit k m.
     try-opens S cells _ visit _ _ _ _ _ _ _ _ _ _ (at-label .label .ensures) _ (at-budget .detail-budget-exhausted .ensures (a .query) hidden)
     (at-if1 .if1 .left) _ (at-grid-member-transform .grid-member-transform .ensures) _ (at-mul .mul .ensures) _ (at-transform-bbox .transform-bbox .ensures) _ (at-overlaps .overlaps .ensures)
     (at-if2 .if2 .left) _ (at-degenerate .source-is-degenerate .ensures) _ (at-size .reference-screen-size .ensures) _ (at-subpixel .is-subpixel .ensures)

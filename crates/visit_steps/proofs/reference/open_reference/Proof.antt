@@ -16,16 +16,16 @@ use Rattle.visit_steps.proofs.reference.open_reference.Tie as tie
 
 unboxed : tie.Need-returns
 unboxed c =
-    λ S cells hidden visit depth number m k.
-    is-over _ _ _ _ _ m k (c .over .ensures) ∙ reference-unboxed S cells _ visit depth number _ _ _ (c .before .enum-told .given .1)
+    λ S cells hidden visit depth number k m.
+    is-over _ _ _ _ _ k m (c .over .ensures) ∙ reference-unboxed S cells _ visit depth number _ _ _ (c .before .enum-told .given .1)
 
 empty : tie.Need-returns-2
 empty c =
     let at-bbox = c .before .before .before in
     let at-new = at-bbox .before in
     let at-bounds = at-new .before .before in
-    λ S cells hidden visit depth number m k.
-    is-over _ _ _ _ _ m k (c .over2 .ensures)
+    λ S cells hidden visit depth number k m.
+    is-over _ _ _ _ _ k m (c .over2 .ensures)
     ∙ reference-empty S cells _ visit depth number _ _ _ _ _ _ _ (at-bounds .bounds .given .1) _ (at-new .new .ensures)
     (sym (at-bbox .reference-bbox .ensures) ∙ c .before .enum-told2 .given .1)
 
@@ -41,10 +41,10 @@ culled c =
     let a = at-bounds .before .before .before .args in
     let members = sym (at-bbox .reference-bbox .ensures) ∙ at-members .local-bbox .given .1 in
     let placed = at-transform .transform-bbox .ensures ∙ ap (transformBbox (a .transform)) (at-transform .before .new2 .ensures) in
-    λ S cells hidden visit depth number m k.
-    is-over _ _ _ _ _ m k (c .over3 .ensures)
+    λ S cells hidden visit depth number k m.
+    is-over _ _ _ _ _ k m (c .over3 .ensures)
     ∙ reference-culled S cells _ visit depth number _ _ _ _ _ _ _ (at-bounds .bounds .given .1) _ (at-new .new .ensures) _ _ _ _ members _ placed
-    (sym (at-overlaps .overlaps .ensures) ∙ not-true _ (at-culled .before .if1 .taken)) _ (at-culled .count-culled-reference .ensures _ m k)
+    (sym (at-overlaps .overlaps .ensures) ∙ not-true _ (at-culled .before .if1 .taken)) _ (at-culled .count-culled-reference .ensures _ k m)
 
 boxed : tie.Need-returns-4
 boxed c =
@@ -63,11 +63,11 @@ boxed c =
     let members = sym (at-bbox .reference-bbox .ensures) ∙ at-members .local-bbox .given .1 in
     let placed = at-transform .transform-bbox .ensures ∙ ap (transformBbox (a .transform)) (at-transform .before .new2 .ensures) in
     let seen = sym (at-overlaps .overlaps .ensures) ∙ not-false _ (else1 .if1 .left) in
-    λ S cells hidden visit depth number m k.
+    λ S cells hidden visit depth number k m.
     let added =
-    at-add .add-load .ensures m k
-    ∙ ap (λ (l : ℕ). addLoad noTag onTape tt l (at-transform .transform-bbox .result) (world (a .plan) (now (a .out)) m k)) (at-label .label .ensures) in
-    is-over _ _ _ _ _ m k (c .over4 .ensures)
+    at-add .add-load .ensures k m
+    ∙ ap (λ (l : ℕ). addLoad noTag onTape tt l (at-transform .transform-bbox .result) (world (a .plan) (now (a .out)) k m)) (at-label .label .ensures) in
+    is-over _ _ _ _ _ k m (c .over4 .ensures)
     ∙ ⊎-elim
     (λ w. reference-detail-full S cells _ visit depth number _ _ _ _ _ _ _ (at-bounds .bounds .given .1) _ (at-new .new .ensures) _ _ _ _ members _ placed seen _ added (sym (at-full .detail-cells-full .ensures) ∙ w .taken))
     (λ w. reference-exhausted S cells _ visit depth number _ _ _ _ _ _ _ (at-bounds .bounds .given .1) _ (at-new .new .ensures) _ _ _ _ members _ placed seen _ added (sym (at-full .detail-cells-full .ensures) ∙ w .0 .left) (sym (w .1 .ensures (a .query) hidden) ∙ w .2 .taken))
@@ -88,7 +88,7 @@ opened c =
     let a = at-bounds .before .before .before .args in
     let members = sym (at-bbox .reference-bbox .ensures) ∙ at-members .local-bbox .given .1 in
     let placed = at-transform .transform-bbox .ensures ∙ ap (transformBbox (a .transform)) (at-transform .before .new2 .ensures) in
-    λ S cells hidden visit depth number m k.
+    λ S cells hidden visit depth number k m.
     reference-opened S cells _ visit depth number _ _ _ _ _ _ _ (at-bounds .bounds .given .1) _ (at-new .new .ensures) _ _ _ _ members _ placed
     (sym (at-overlaps .overlaps .ensures) ∙ not-false _ (else1 .if1 .left))
     (sym (at-full .detail-cells-full .ensures) ∙ else2 .if2 .left)

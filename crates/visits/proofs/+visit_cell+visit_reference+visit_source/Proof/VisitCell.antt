@@ -23,7 +23,7 @@ Inv-loop sheet cells query hidden object-limit out₀ counts₀ marks₀ cell tr
     × (length out ≡ length out₀)
     × (length counts ≡ length counts₀)
     × (length marks ≡ length marks₀)
-    × (each (Cells.turn sheet cells (queryOf query hidden object-limit) depth cell at transform bounds) references 0 (world next₀ out₀ marks₀ counts₀) ≡ each (Cells.turn sheet cells (queryOf query hidden object-limit) depth cell at transform bounds) (references - i) i (world next out marks counts))
+    × (each (Cells.turn sheet cells (queryOf query hidden object-limit) depth cell at transform bounds) references 0 (world next₀ out₀ counts₀ marks₀) ≡ each (Cells.turn sheet cells (queryOf query hidden object-limit) depth cell at transform bounds) (references - i) i (world next out counts marks))
 
 abbrev pub μ-loop : lts.MeasureT-loop
 μ-loop sheet cells query hidden object-limit out₀ counts₀ marks₀ cell transform depth at bounds references next₀ i₀ out counts marks next i = references - i
@@ -34,7 +34,7 @@ module _ (t : ℕ) where
       let after-find = c .before .before in
       let start = after-find .before .before .before .before .before .before in
       Cells.cell-missing (start .args .sheet .now) (start .args .cells) (queryOf (start .args .query) (start .args .hidden .now) (start .args .object-limit)) (start .args .depth) (start .args .cell) (start .args .transform)
-      (world (start .args .plan) (start .args .out .now) (start .args .marks .now) (start .args .counts .now)) (sym (after-find .find .ensures) ∙ c .enum-told .given .1)
+      (world (start .args .plan) (start .args .out .now) (start .args .counts .now) (start .args .marks .now)) (sym (after-find .find .ensures) ∙ c .enum-told .given .1)
 
   pub not-entered : lts.Need-returns-2 (visit-cell-claims t) (visit-cell-at t) visit-cell.Post Inv-loop μ-loop
   not-entered c =
@@ -43,7 +43,7 @@ module _ (t : ℕ) where
       let after-find = after-at .before .before in
       let start = after-find .before .before .before .before .before .before in
       Cells.cell-not-entered (start .args .sheet .now) (start .args .cells) (queryOf (start .args .query) (start .args .hidden .now) (start .args .object-limit)) (start .args .depth) (start .args .cell) (start .args .transform)
-      (world (start .args .plan) (start .args .out .now) (start .args .marks .now) (start .args .counts .now))
+      (world (start .args .plan) (start .args .out .now) (start .args .counts .now) (start .args .marks .now))
       (after-at .at .given .0 .0) (sym (after-find .find .ensures) ∙ after-at .at .given .1) (after-enter-cell .enter-cell .result .goes) (after-enter-cell .enter-cell .result .bounds)
       (world (after-enter-cell .enter-cell .result .plan) (after-enter-cell .enter-cell .last .1 .1 .1 .1 .0) (after-enter-cell .enter-cell .last .1 .1 .1 .1 .1 .0) (start .args .counts .now))
       (after-enter-cell .enter-cell .ensures (sheetOf (start .args .sheet .now)) (start .args .hidden .now) (visitReference noTag onTape (sheetOf (start .args .sheet .now)) (start .args .cells) (queryOf (start .args .query) (start .args .hidden .now) (start .args .object-limit)) (start .args .depth)) (start .args .counts .now))
@@ -77,7 +77,7 @@ module _ (t : ℕ) where
         after-visit-reference .visit-reference .kept .1 .1 .1 .1 .1 .1 .0 ∙ after-loop .loop .inv .2,
         after-visit-reference .visit-reference .kept .1 .1 .1 .1 .1 .1 .1 .0 ∙ after-loop .loop .inv .3,
         after-loop .loop .inv .4 ∙ each-go _ _ (after-loop .loop .i) _ _ (after-loop-test .loop-test .taken)
-            (Cells.turn-goes _ _ _ _ _ _ _ _ (after-loop .loop .i) (world (after-loop .loop .next) (after-loop .loop .out) (after-loop .loop .marks) (after-loop .loop .counts))
+            (Cells.turn-goes _ _ _ _ _ _ _ _ (after-loop .loop .i) (world (after-loop .loop .next) (after-loop .loop .out) (after-loop .loop .counts) (after-loop .loop .marks))
             (world (after-visit-reference .visit-reference .result) (after-visit-reference .visit-reference .last .1 .1 .1 .1 .1 .0) (after-visit-reference .visit-reference .last .1 .1 .1 .1 .1 .1 .1 .0) (after-visit-reference .visit-reference .last .1 .1 .1 .1 .1 .1 .0))
             (after-cell-reference-at .cell-reference-at .result)
             (sym (after-detail-budget-exhausted .detail-budget-exhausted .ensures (start .args .query) (start .args .hidden .now)) ∙ after-if2 .if2 .left)
@@ -85,16 +85,16 @@ module _ (t : ℕ) where
       )
 
   -- however the loop ends, the cell is closed, and its visit is over
-  closed : (c : lts.At-loop (visit-cell-claims t) (visit-cell-at t) visit-cell.Post Inv-loop μ-loop) (plan : ScenePlan) (o m m′ k : List ℕ)
+  closed : (c : lts.At-loop (visit-cell-claims t) (visit-cell-at t) visit-cell.Post Inv-loop μ-loop) (plan : ScenePlan) (o k m m′ : List ℕ)
       → let after-push-items = c .before .before .before .before in
       let after-enter-cell = after-push-items .before .before .before .before .before .before .before .before .before in
       let start = after-enter-cell .before .before .before .before .before .before .before .before .before .before .before .before in
       let query = queryOf (start .args .query) (start .args .hidden .now) (start .args .object-limit) in
       let turn = Cells.turn (start .args .sheet .now) (start .args .cells) query (start .args .depth) (start .args .cell) (after-enter-cell .before .before .before .before .at .given .0 .0) (start .args .transform) (after-enter-cell .enter-cell .result .bounds) in
-      ending (each turn (after-push-items .push-items .result .references - c .loop .i) (c .loop .i) (world (c .loop .next) (c .loop .out) (c .loop .marks) (c .loop .counts))) ≡ world plan o m k
+      ending (each turn (after-push-items .push-items .result .references - c .loop .i) (c .loop .i) (world (c .loop .next) (c .loop .out) (c .loop .counts) (c .loop .marks))) ≡ world plan o k m
       → m′ ≡ set m (openPlace (start .args .cells) (start .args .cell)) 0
-      → world plan o m′ k ≡ visitCell noTag onTape (sheetOf (start .args .sheet .now)) (start .args .cells) query (start .args .depth) tt (start .args .cell) (start .args .transform) (world (start .args .plan) (start .args .out .now) (start .args .marks .now) (start .args .counts .now))
-  closed c plan o m m′ k ended removed =
+      → world plan o k m′ ≡ visitCell noTag onTape (sheetOf (start .args .sheet .now)) (start .args .cells) query (start .args .depth) tt (start .args .cell) (start .args .transform) (world (start .args .plan) (start .args .out .now) (start .args .counts .now) (start .args .marks .now))
+  closed c plan o k m m′ ended removed =
       let after-push-items = c .before .before .before .before in
       let after-if1 = after-push-items .before .before in
       let after-enter-cell = after-if1 .before .before .before .before .before .before .before in
@@ -106,12 +106,12 @@ module _ (t : ℕ) where
       let visit = visitReference noTag onTape sheet (start .args .cells) query (start .args .depth) in
       let marks = after-enter-cell .enter-cell .last .1 .1 .1 .1 .1 .0 in
       Cells.cell-visited (start .args .sheet .now) (start .args .cells) query (start .args .depth) (start .args .cell) (start .args .transform)
-      (world (start .args .plan) (start .args .out .now) (start .args .marks .now) (start .args .counts .now))
+      (world (start .args .plan) (start .args .out .now) (start .args .counts .now) (start .args .marks .now))
       (after-at .at .given .0 .0) (sym (after-find .find .ensures) ∙ after-at .at .given .1) (after-enter-cell .enter-cell .result .goes) (after-enter-cell .enter-cell .result .bounds)
-      (world (after-enter-cell .enter-cell .result .plan) (after-enter-cell .enter-cell .last .1 .1 .1 .1 .0) marks (start .args .counts .now))
+      (world (after-enter-cell .enter-cell .result .plan) (after-enter-cell .enter-cell .last .1 .1 .1 .1 .0) (start .args .counts .now) marks)
       (after-enter-cell .enter-cell .ensures sheet (start .args .hidden .now) visit (start .args .counts .now)) (after-if1 .if1 .left)
-      (after-push-items .push-items .result .references) (world (after-push-items .push-items .result .plan) (after-push-items .push-items .last .1 .1 .1 .1 .0) marks (start .args .counts .now))
-      plan o m m′ k (after-push-items .push-items .ensures (start .args .cells) visit marks (start .args .counts .now)) (ap ending (c .loop .inv .4) ∙ ended) removed
+      (after-push-items .push-items .result .references) (world (after-push-items .push-items .result .plan) (after-push-items .push-items .last .1 .1 .1 .1 .0) (start .args .counts .now) marks)
+      plan o k m m′ (after-push-items .push-items .ensures (start .args .cells) visit (start .args .counts .now) marks) (ap ending (c .loop .inv .4) ∙ ended) removed
 
   pub exhausted-keeps-length : lts.Need-same-length-3 (visit-cell-claims t) (visit-cell-at t) visit-cell.Post Inv-loop μ-loop
   exhausted-keeps-length c =
@@ -130,12 +130,12 @@ module _ (t : ℕ) where
       let after-loop-test = after-detail-budget-exhausted .before in
       let after-loop = after-loop-test .before in
       let start = after-loop .before .before .before .before .before .before .before .before .before .before .before .before .before .before .before .before .before .before .before .before .before .before .before .before .before in
-      let boxed = world (after-add-load-if-boxed .add-load-if-boxed .result) (after-add-load-if-boxed .add-load-if-boxed .last .0) (after-loop .loop .marks) (after-loop .loop .counts) in
+      let boxed = world (after-add-load-if-boxed .add-load-if-boxed .result) (after-add-load-if-boxed .add-load-if-boxed .last .0) (after-loop .loop .counts) (after-loop .loop .marks) in
       closed after-loop (boxed .state) (boxed .out) (after-loop .loop .marks) (after-stack-remove .stack-remove .last .0) (after-loop .loop .counts)
       (ap ending (each-halt _ _ (after-loop .loop .i) _ boxed (after-loop-test .loop-test .taken)
-      (Cells.turn-exhausted _ _ _ _ _ _ _ _ (after-loop .loop .i) (world (after-loop .loop .next) (after-loop .loop .out) (after-loop .loop .marks) (after-loop .loop .counts)) boxed
+      (Cells.turn-exhausted _ _ _ _ _ _ _ _ (after-loop .loop .i) (world (after-loop .loop .next) (after-loop .loop .out) (after-loop .loop .counts) (after-loop .loop .marks)) boxed
       (sym (after-detail-budget-exhausted .detail-budget-exhausted .ensures (start .args .query) (start .args .hidden .now)) ∙ after-if2 .if2 .taken)
-      (after-add-load-if-boxed .add-load-if-boxed .ensures (after-loop .loop .marks) (after-loop .loop .counts)))))
+      (after-add-load-if-boxed .add-load-if-boxed .ensures (after-loop .loop .counts) (after-loop .loop .marks)))))
       (after-stack-remove .stack-remove .ensures)
 
   pub ended : lts.Need-returns-4 (visit-cell-claims t) (visit-cell-at t) visit-cell.Post Inv-loop μ-loop

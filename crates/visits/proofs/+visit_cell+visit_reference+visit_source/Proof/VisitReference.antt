@@ -26,7 +26,7 @@ Inv-loop sheet cells query hidden object-limit out₀ counts₀ marks₀ number 
     × (length out ≡ length out₀)
     × (length counts ≡ length counts₀)
     × (length marks ≡ length marks₀)
-    × (each (References.turn sheet cells query hidden object-limit depth reference transform source-bbox world-bbox share) count 0 (world next₀ out₀ marks₀ counts₀) ≡ each (References.turn sheet cells query hidden object-limit depth reference transform source-bbox world-bbox share) (count - i) i (world next out marks counts))
+    × (each (References.turn sheet cells query hidden object-limit depth reference transform source-bbox world-bbox share) count 0 (world next₀ out₀ counts₀ marks₀) ≡ each (References.turn sheet cells query hidden object-limit depth reference transform source-bbox world-bbox share) (count - i) i (world next out counts marks))
 
 abbrev pub μ-loop : lts.MeasureT-loop
 μ-loop sheet cells query hidden object-limit out₀ counts₀ marks₀ number transform depth at reference source next₀ source-bbox world-bbox count draw-units share i₀ out counts marks next i = count - i
@@ -48,7 +48,7 @@ module _ (t : ℕ) where
   reached c =
       let start = c .before .before .before .before .before .before .before .before .before .before .before .before in
       let a = start .args in
-      world (c .open-reference .result .plan) (c .open-reference .last .1 .1 .0) (a .marks .now) (a .counts .now)
+      world (c .open-reference .result .plan) (c .open-reference .last .1 .1 .0) (a .counts .now) (a .marks .now)
 
   -- what is left to do where the draw units are to be counted
   abbrev rest : Opened → World (List ℕ)
@@ -57,13 +57,13 @@ module _ (t : ℕ) where
       let start = after-reference-at .before .before .before .before .before .before .before .before .before .before in
       let a = start .args in
       visitCountedReference noTag onTape (sheetOf (a .sheet .now)) (a .cells) (queryOf (a .query) (a .hidden .now) (a .object-limit)) (References.deeper (a .sheet .now) (a .cells) (a .query) (a .hidden .now) (a .object-limit) (a .depth)) (a .depth) tt (after-reference-at .reference-at .result) (a .transform) (c .open-reference .result .«source_bbox») (c .open-reference .result .«world_bbox»)
-      (referenceDrawUnits (sheetOf (a .sheet .now)) (a .cells) (a .depth) (a .number) (a .marks .now) (a .counts .now)) (reached c)
+      (referenceDrawUnits (sheetOf (a .sheet .now)) (a .cells) (a .depth) (a .number) (a .counts .now) (a .marks .now)) (reached c)
 
   abbrev visit : Opened → World (List ℕ)
   visit c =
       let start = c .before .before .before .before .before .before .before .before .before .before .before .before in
       let a = start .args in
-      visitReference noTag onTape (sheetOf (a .sheet .now)) (a .cells) (queryOf (a .query) (a .hidden .now) (a .object-limit)) (a .depth) tt (a .number) (a .transform) (world (a .plan) (a .out .now) (a .marks .now) (a .counts .now))
+      visitReference noTag onTape (sheetOf (a .sheet .now)) (a .cells) (queryOf (a .query) (a .hidden .now) (a .object-limit)) (a .depth) tt (a .number) (a .transform) (world (a .plan) (a .out .now) (a .counts .now) (a .marks .now))
 
   opened : (c : Opened) → cond (c .open-reference .result .goes) (rest c) (reached c) ≡ visit c
   opened c =
@@ -72,8 +72,8 @@ module _ (t : ℕ) where
       let after-find = after-at .before .before in
       let start = after-find .before .before .before .before .before .before in
       let a = start .args in
-      c .open-reference .ensures (sheetOf (a .sheet .now)) (a .cells) (a .hidden .now) (References.deeper (a .sheet .now) (a .cells) (a .query) (a .hidden .now) (a .object-limit) (a .depth)) (a .depth) (a .number) (a .marks .now) (a .counts .now)
-      ∙ References.found (a .sheet .now) (a .cells) (a .query) (a .hidden .now) (a .object-limit) (a .depth) (a .number) (a .transform) (world (a .plan) (a .out .now) (a .marks .now) (a .counts .now)) (after-at .at .given .0 .0) (sym (after-find .find .ensures) ∙ after-at .at .given .1) (after-reference-at .reference-at .result) (after-reference-at .reference-at .ensures)
+      c .open-reference .ensures (sheetOf (a .sheet .now)) (a .cells) (a .hidden .now) (References.deeper (a .sheet .now) (a .cells) (a .query) (a .hidden .now) (a .object-limit) (a .depth)) (a .depth) (a .number) (a .counts .now) (a .marks .now)
+      ∙ References.found (a .sheet .now) (a .cells) (a .query) (a .hidden .now) (a .object-limit) (a .depth) (a .number) (a .transform) (world (a .plan) (a .out .now) (a .counts .now) (a .marks .now)) (after-at .at .given .0 .0) (sym (after-find .find .ensures) ∙ after-at .at .given .1) (after-reference-at .reference-at .result) (after-reference-at .reference-at .ensures)
 
   pub over : lts.Need-returns-2 (visit-reference-claims t) (visit-reference-at t) visit-reference.Post Inv-loop μ-loop
   over c =
@@ -94,7 +94,7 @@ module _ (t : ℕ) where
       let start = after-reference-at .before .before .before .before .before .before .before .before .before .before in
       let a = start .args in
       References.collapsed (a .sheet .now) (a .cells) (a .query) (a .hidden .now) (a .object-limit) (a .depth) (after-reference-at .reference-at .result) (a .transform) (after-open-reference .open-reference .result .«source_bbox») (after-open-reference .open-reference .result .«world_bbox»)
-      (reached after-open-reference) (referenceDrawUnits (sheetOf (a .sheet .now)) (a .cells) (a .depth) (a .number) (a .marks .now) (a .counts .now)) (after-reference-draw-units .reference-draw-units .result) (after-grid-count .grid-count .result) (after-reference-draw-units .reference-draw-units .last .1 .1 .1 .0) (after-reference-draw-units .reference-draw-units .last .1 .1 .0)
+      (reached after-open-reference) (referenceDrawUnits (sheetOf (a .sheet .now)) (a .cells) (a .depth) (a .number) (a .counts .now) (a .marks .now)) (after-reference-draw-units .reference-draw-units .result) (after-grid-count .grid-count .result) (after-reference-draw-units .reference-draw-units .last .1 .1 .1 .0) (after-reference-draw-units .reference-draw-units .last .1 .1 .0)
       (after-reference-draw-units .reference-draw-units .ensures) (after-grid-count .grid-count .ensures) (after-collapses .collapses .result) (after-collapses .collapses .ensures)
       (after-if2 .if2 .taken) (after-label .label .result) (after-label .label .ensures) _ (after-add-load .add-load .ensures (after-reference-draw-units .reference-draw-units .last .1 .1 .1 .0) (after-reference-draw-units .reference-draw-units .last .1 .1 .0))
       ∙ References.units-left (after-open-reference .open-reference .result .goes) (rest after-open-reference) (reached after-open-reference) (visit after-open-reference) (opened after-open-reference) (not-false _ (after-if1 .if1 .left))
@@ -144,7 +144,7 @@ module _ (t : ℕ) where
       References.turn (a .sheet .now) (a .cells) (a .query) (a .hidden .now) (a .object-limit) (a .depth) (after-reference-at .reference-at .result) (a .transform) (after-open-reference .open-reference .result .«source_bbox») (after-open-reference .open-reference .result .«world_bbox») (after-source-units .source-units .result)
 
   abbrev here : Head → World (List ℕ)
-  here c = world (c .loop .next) (c .loop .out) (c .loop .marks) (c .loop .counts)
+  here c = world (c .loop .next) (c .loop .out) (c .loop .counts) (c .loop .marks)
 
   -- what is left of the loop is what is left of the visit
   left-to-do : (c : Head) → ending (each (turn c) (count c - c .loop .i) (c .loop .i) (here c)) ≡ visit (opening c)
@@ -161,7 +161,7 @@ module _ (t : ℕ) where
       let a = start .args in
       ap ending (sym (c .loop .inv .5))
       ∙ References.expanded (a .sheet .now) (a .cells) (a .query) (a .hidden .now) (a .object-limit) (a .depth) (after-reference-at .reference-at .result) (a .transform) (after-open-reference .open-reference .result .«source_bbox») (after-open-reference .open-reference .result .«world_bbox»)
-      (reached after-open-reference) (referenceDrawUnits (sheetOf (a .sheet .now)) (a .cells) (a .depth) (a .number) (a .marks .now) (a .counts .now)) (after-reference-draw-units .reference-draw-units .result) (after-grid-count .grid-count .result) (after-reference-draw-units .reference-draw-units .last .1 .1 .1 .0) (after-reference-draw-units .reference-draw-units .last .1 .1 .0)
+      (reached after-open-reference) (referenceDrawUnits (sheetOf (a .sheet .now)) (a .cells) (a .depth) (a .number) (a .counts .now) (a .marks .now)) (after-reference-draw-units .reference-draw-units .result) (after-grid-count .grid-count .result) (after-reference-draw-units .reference-draw-units .last .1 .1 .1 .0) (after-reference-draw-units .reference-draw-units .last .1 .1 .0)
       (after-reference-draw-units .reference-draw-units .ensures) (after-grid-count .grid-count .ensures) (after-collapses .collapses .result) (after-collapses .collapses .ensures)
       (after-if2 .if2 .left) (after-source-units .source-units .result) (after-source-units .source-units .ensures)
       ∙ References.units-left (after-open-reference .open-reference .result .goes) (rest after-open-reference) (reached after-open-reference) (visit after-open-reference) (opened after-open-reference) (not-false _ (after-if1 .if1 .left))
@@ -203,7 +203,7 @@ module _ (t : ℕ) where
   abbrev passed : Tried → World (List ℕ)
   passed c =
       let after-loop = c .before .before .before in
-      world (c .try-member .result .plan) (c .try-member .last .1 .1 .0) (after-loop .loop .marks) (after-loop .loop .counts)
+      world (c .try-member .result .plan) (c .try-member .last .1 .1 .0) (after-loop .loop .counts) (after-loop .loop .marks)
 
   -- the visit of the member's source
   abbrev visited : Tried → Flow (List ℕ)
@@ -221,7 +221,7 @@ module _ (t : ℕ) where
       let after-loop = c .before .before .before in
       let start = after-loop .before .before .before .before .before .before .before .before .before .before .before .before .before .before .before .before .before .before .before .before .before .before .before .before .before .before .before .before .before .before .before in
       let a = start .args in
-      c .try-member .ensures (sheetOf (a .sheet .now)) (a .cells) (a .hidden .now) (visitSource noTag onTape (sheetOf (a .sheet .now)) (a .cells) (queryOf (a .query) (a .hidden .now) (a .object-limit)) (a .depth - 1)) (after-loop .loop .marks) (after-loop .loop .counts)
+      c .try-member .ensures (sheetOf (a .sheet .now)) (a .cells) (a .hidden .now) (visitSource noTag onTape (sheetOf (a .sheet .now)) (a .cells) (queryOf (a .query) (a .hidden .now) (a .object-limit)) (a .depth - 1)) (after-loop .loop .counts) (after-loop .loop .marks)
 
   -- a member that halts ends the visit
   halts : (c : Tried) (v : World (List ℕ)) → member c ≡ halt v → v ≡ visit (opening (head c))

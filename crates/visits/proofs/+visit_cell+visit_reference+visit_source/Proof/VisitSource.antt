@@ -13,7 +13,7 @@ module _ (t : ℕ) where
       let after-source = after-visit-cell .before .before .before .before .before in
       let start = after-source .before .before .before .before .before .before .before in
       Cells.source-cell (start .args .sheet .now) (start .args .cells) (queryOf (start .args .query) (start .args .hidden .now) (start .args .object-limit)) (start .args .depth) (start .args .source) (after-source .source .given .0 .0) (start .args .transform)
-      (world (start .args .plan) (start .args .out .now) (start .args .marks .now) (start .args .counts .now))
+      (world (start .args .plan) (start .args .out .now) (start .args .counts .now) (start .args .marks .now))
       (after-source .source .given .1) _ (after-visit-cell .visit-cell .ensures)
 
   pub to-geometry : lts.Need-returns-2 (visit-source-claims t) (visit-source-at t) visit-source.Post
@@ -22,8 +22,8 @@ module _ (t : ℕ) where
       let after-source2 = after-push-geometry .before .before .before in
       let start = after-source2 .before .before .before .before .before .before .before in
       Cells.source-geometry (start .args .sheet .now) (start .args .cells) (queryOf (start .args .query) (start .args .hidden .now) (start .args .object-limit)) (start .args .depth) (start .args .source) (after-source2 .source2 .given .0 .0) (start .args .transform)
-      (world (start .args .plan) (start .args .out .now) (start .args .marks .now) (start .args .counts .now))
-      (after-source2 .source2 .given .1) _ (after-push-geometry .push-geometry .ensures (start .args .marks .now) (start .args .counts .now))
+      (world (start .args .plan) (start .args .out .now) (start .args .counts .now) (start .args .marks .now))
+      (after-source2 .source2 .given .1) _ (after-push-geometry .push-geometry .ensures (start .args .counts .now) (start .args .marks .now))
 
   pub to-text : lts.Need-returns-3 (visit-source-claims t) (visit-source-at t) visit-source.Post
   to-text c =
@@ -31,8 +31,8 @@ module _ (t : ℕ) where
       let after-source3 = after-push-text .before .before .before in
       let start = after-source3 .before .before .before .before .before .before .before in
       Cells.source-text (start .args .sheet .now) (start .args .cells) (queryOf (start .args .query) (start .args .hidden .now) (start .args .object-limit)) (start .args .depth) (start .args .source) (after-source3 .source3 .given .0 .0) (start .args .transform)
-      (world (start .args .plan) (start .args .out .now) (start .args .marks .now) (start .args .counts .now))
-      (after-source3 .source3 .given .1) _ (after-push-text .push-text .ensures (start .args .object-limit) (start .args .marks .now) (start .args .counts .now))
+      (world (start .args .plan) (start .args .out .now) (start .args .counts .now) (start .args .marks .now))
+      (after-source3 .source3 .given .1) _ (after-push-text .push-text .ensures (start .args .object-limit) (start .args .counts .now) (start .args .marks .now))
 
   pub to-node : lts.Need-returns-4 (visit-source-claims t) (visit-source-at t) visit-source.Post
   to-node c =
@@ -40,8 +40,8 @@ module _ (t : ℕ) where
       let after-source4 = after-push-node .before .before .before in
       let start = after-source4 .before .before .before .before .before .before .before in
       Cells.source-node (start .args .sheet .now) (start .args .cells) (queryOf (start .args .query) (start .args .hidden .now) (start .args .object-limit)) (start .args .depth) (start .args .source) (after-source4 .source4 .given .0 .0) (start .args .transform)
-      (world (start .args .plan) (start .args .out .now) (start .args .marks .now) (start .args .counts .now))
-      (after-source4 .source4 .given .1) _ (after-push-node .push-node .ensures (start .args .marks .now) (start .args .counts .now))
+      (world (start .args .plan) (start .args .out .now) (start .args .counts .now) (start .args .marks .now))
+      (after-source4 .source4 .given .1) _ (after-push-node .push-node .ensures (start .args .counts .now) (start .args .marks .now))
 
   pub to-reference : lts.Need-returns-5 (visit-source-claims t) (visit-source-at t) visit-source.Post
   to-reference c =
@@ -49,5 +49,5 @@ module _ (t : ℕ) where
       let after-source5 = after-visit-reference .before .before .before .before .before in
       let start = after-source5 .before .before .before .before .before .before .before in
       Cells.source-reference (start .args .sheet .now) (start .args .cells) (queryOf (start .args .query) (start .args .hidden .now) (start .args .object-limit)) (start .args .depth) (start .args .source) (after-source5 .source5 .given .0 .0) (start .args .transform)
-      (world (start .args .plan) (start .args .out .now) (start .args .marks .now) (start .args .counts .now))
+      (world (start .args .plan) (start .args .out .now) (start .args .counts .now) (start .args .marks .now))
       (after-source5 .source5 .given .1) _ (after-visit-reference .visit-reference .ensures)
