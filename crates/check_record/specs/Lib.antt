@@ -5,7 +5,6 @@
 --     Values    question 4: its whole numbers, flags and absent boxes
 --     Floats    question 5: its floats
 --     Record    the number of the first no, and what a record is that has none
---     Facts     what each question gives a reader of the record
 -- Assumes nothing.
 pub mod Tests
 pub mod Frame
@@ -13,4 +12,3 @@ pub mod Shape
 pub mod Values
 pub mod Floats
 pub mod Record
-pub mod Facts

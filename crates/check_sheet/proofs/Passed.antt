@@ -7,8 +7,10 @@ use mathlib.Core.List.{List}
 use mathlib.Core.Bool.{Bool, true, false, cond}
 use lib.ListN.{length}
 use lib.Dec.{eqb}
-use Rattle.walk.specs.Offsets.{lengthAt, kindAt, offsetsFrom, offsets-more, offsets-end}
-use Rattle.walk.specs.Find.{ofKindIn, countOf, countIn, count-step}
+use Rattle.walk.specs.Offsets.{lengthAt, kindAt, offsetsFrom}
+use Rattle.walk.proofs.Offsets.{offsets-more, offsets-end}
+use Rattle.walk.specs.Find.{ofKindIn, countOf}
+use Rattle.walk.proofs.Finding.{countIn, count-step}
 use Rattle.check_sheet.specs.declared.Counts.{Counts}
 use Rattle.check_sheet.specs.Count.{countsOf, tallied, counted, AtMost}
 

@@ -27,8 +27,9 @@ use Rattle.check_sheet.specs.declared.Checked.the-variants as checked
 use Rattle.check_sheet.specs.Count.{countsOf}
 use Rattle.check_sheet.specs.Links.{linkOk}
 use Rattle.check_sheet.specs.Check.{firstNo, firstUnnamed, checkSheet}
-use Rattle.check_sheet.specs.Valid.{Valid, sound-valid, sound-counts}
-use Rattle.check_sheet.specs.Laws.Values.{columns-most, rows-most}
+use Rattle.check_sheet.specs.Valid.{Valid}
+use Rattle.check_sheet.proofs.Valid.{sound-valid, sound-counts}
+use Rattle.check_sheet.proofs.Laws.Values.{columns-most, rows-most}
 use Rattle.plan_rules.specs.declared.ScenePlan.{ScenePlan}
 use Rattle.plan_rules.specs.declared.Answer.the-variants.{Planned, Refused}
 use Rattle.plan_rules.specs.Limits.{maxDepth}

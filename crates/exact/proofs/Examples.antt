@@ -11,7 +11,7 @@ use Rattle.geometry.specs.declared.placement.DVec2.{DVec2}
 use Rattle.geometry.specs.declared.grid.Grid.{Grid}
 use Rattle.geometry.specs.Placement.{vec, fromCols, zeroFloat, oneFloat, transformPoint2}
 use Rattle.geometry.specs.Bbox.{bbox, boxed}
-use Rattle.geometry.specs.Opened.{opened}
+use Rattle.geometry.proofs.Opened.{opened}
 use Rattle.geometry.specs.Grid.{gridMemberTransform, referenceBbox}
 use Rattle.exact.specs.Integer.{integer}
 use Rattle.exact.specs.IsInteger.{IsInteger, exactUpTo}

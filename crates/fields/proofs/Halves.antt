@@ -6,8 +6,8 @@ use mathlib.Core.List.{List}
 use lib.ListN.{length}
 use lib.Seq.{sets}
 use Rattle.fields.specs.Field.{uintAt, uintBytes}
-use Rattle.fields.specs.Reading.{uintAt-add}
-use Rattle.fields.specs.Writing.{sets-uint-add, sets-past-end}
+use Rattle.fields.proofs.Reading.{uintAt-add}
+use Rattle.fields.proofs.Writing.{sets-uint-add, sets-past-end}
 
 pub read-halves : (j : ℕ) (s : List ℕ) (at : ℕ) {low high : ℕ} → low ≡ uintAt j s at → high ≡ uintAt j s (at + j) → low + 256 ^ j * high ≡ uintAt (j + j) s at
 read-halves j s at l h = ap₂ (λ (a b : ℕ). a + 256 ^ j * b) l h ∙ sym (uintAt-add j j s at)

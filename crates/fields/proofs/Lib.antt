@@ -1,2 +1,8 @@
 -- What the proofs of several functions share.
+--     Reading      laws of `uintAt`
+--     Writing      laws of `uintBytes`, and of fields written one after the other
+--     ReadBack     what is read where a field was written, and where none was
 mod Halves
+pub mod Reading
+pub mod Writing
+pub mod ReadBack

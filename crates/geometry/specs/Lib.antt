@@ -4,13 +4,9 @@
 --     Bbox          boxes in the world
 --     Grid          the members of a reference
 --     Screen        sizes on the screen, and the tests that are made of them
---     Opened        one name that opens every definition, for a proof by computation
---     Readings      document 01's readings at the edges, as far as geometry decides them
 -- Assumes nothing.
 pub mod Rounded
 pub mod Placement
 pub mod Bbox
 pub mod Grid
 pub mod Screen
-pub mod Opened
-pub mod Readings

@@ -9,7 +9,7 @@ use lib.ListN.{length, drop, replicate, length-append}
 use lib.Dec.{leb, eqb}
 use borrow.Author.Tests.{eqb-false}
 use Rattle.fields.specs.Field.{widths}
-use Rattle.fields.specs.Writing.{length-recordBytes}
+use Rattle.fields.proofs.Writing.{length-recordBytes}
 use Rattle.walk.specs.Offsets.{kindAt, offsets}
 use Rattle.walk.specs.Find.{countOf}
 use Rattle.check_record.specs.Record.{recordRefusal}

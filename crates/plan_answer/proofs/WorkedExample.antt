@@ -5,7 +5,7 @@ use mathlib.Core.List.{List, [], _∷_, _++_}
 use Prim.Native.Nat.{ℕ}
 use lib.ListN.{replicate, take}
 use Rattle.fields.specs.Field.{uint, f64, recordBytes}
-use Rattle.abstract_sheet.specs.Examples.{workedText, workedCell, workedSheet}
+use Rattle.abstract_sheet.proofs.Examples.{workedText, workedCell, workedSheet}
 use Rattle.plan_text.specs.Ascii.{ascii}
 use Rattle.plan_text.proofs.Opened.{openedText}
 use Rattle.plan_rules.proofs.Cases.OpenedSheet.{openedSheet}

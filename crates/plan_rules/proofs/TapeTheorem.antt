@@ -12,7 +12,7 @@ use lib.Seq.{sets, length-sets, sets-eq}
 use lib.Dec.{leb}
 use borrow.Author.Tests.{le-leb}
 use Rattle.fields.specs.Field.{Field, widths, recordBytes}
-use Rattle.fields.specs.Writing.{sets-append, length-recordBytes}
+use Rattle.fields.proofs.Writing.{sets-append, length-recordBytes}
 use Rattle.abstract_sheet.specs.Sheet.{Sheet}
 use Rattle.plan_rules.specs.declared.ScenePlan.{ScenePlan}
 use Rattle.plan_rules.specs.Limits.{maxTotal}

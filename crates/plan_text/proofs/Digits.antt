@@ -9,8 +9,8 @@ use lib.ListN.{length, set, length-append}
 use lib.Seq.{sets, set-comm}
 use lib.Dec.{lit≤}
 use borrow.Author.Tests.{lt-ltb, le-ltb}
-use Rattle.fields.specs.Writing.{sets-append}
-use Rattle.walk.specs.Offsets.{by-order}
+use Rattle.fields.proofs.Writing.{sets-append}
+use Rattle.walk.proofs.Offsets.{by-order}
 use Rattle.plan_text.specs.Text.{digit, digits, decimalSizeIn, decimalSize}
 use Rattle.plan_text.specs.Written.{Written}
 

@@ -8,7 +8,7 @@ use native.Mathlib.Omega.{arith}
 use lib.ListN.{length, set}
 use lib.Seq.{sets}
 use Rattle.fields.specs.Field.{uintAt}
-use Rattle.fields.specs.Writing.{sets-append}
+use Rattle.fields.proofs.Writing.{sets-append}
 use Rattle.plan_text.specs.Query.{layersFrom}
 
 length-layers : (n : ℕ) (s : List ℕ) (at : ℕ) → length (layersFrom n s at) ≡ n

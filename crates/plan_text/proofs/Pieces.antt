@@ -8,7 +8,7 @@ use native.Mathlib.Omega.{arith}
 use lib.ListN.{length, take, getD, set, length-append}
 use lib.Seq.{sets, take-suc, take-all, length-take-le}
 use Rattle.fields.specs.Field.{uintAt}
-use Rattle.fields.specs.Writing.{sets-append}
+use Rattle.fields.proofs.Writing.{sets-append}
 use Rattle.plan_text.specs.Text.{eachField}
 use Rattle.plan_text.specs.Written.{Written}
 

@@ -7,7 +7,8 @@ use native.Mathlib.Omega.{arith}
 use lib.ListN.{length, take, drop, length-append, length-drop}
 use lib.Seq.{sets-eq, take-all, take-at, drop-at, drop-drop, length-take-le}
 use borrow.Author.Tests.{lt-ltb, le-ltb}
-use Rattle.walk.specs.Offsets.{lengthAt, offsets-end, offsets-more, offsets-bad, by-order}
+use Rattle.walk.specs.Offsets.{lengthAt}
+use Rattle.walk.proofs.Offsets.{offsets-end, offsets-more, offsets-bad, by-order}
 use Rattle.plan_text.specs.Text.{lineOf, nextRecord, linesAt, linesFrom}
 use Rattle.plan_text.specs.Written.{Written, lineRoom}
 

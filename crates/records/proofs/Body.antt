@@ -8,7 +8,7 @@ use mathlib.Core.Bool.{Bool}
 use lib.ListN.{drop}
 use lib.Ieee.{binary64, ofBits}
 use Rattle.fields.specs.Field.{uintAt, f64At}
-use Rattle.fields.specs.Reading.{uintAt-drop}
+use Rattle.fields.proofs.Reading.{uintAt-drop}
 use Rattle.records.specs.Records.{dvec2At, worldBBoxAt, boundsAt}
 
 -- the body is the bytes of the sheet from an offset on

@@ -10,7 +10,7 @@ use lib.Seq.{sets, drop-length}
 use lib.Dec.{leb}
 use borrow.Author.Tests.{lt-leb, leb-true, leb-false}
 use Rattle.fields.specs.Field.{Field, widths, uintBytes, recordBytes}
-use Rattle.fields.specs.Writing.{uintBytes-mod}
+use Rattle.fields.proofs.Writing.{uintBytes-mod}
 use Rattle.plan_rules.specs.Event.{Event, amounts}
 use Rattle.plan_rules.specs.Tape.{fieldsOf, putRecord}
 use Rattle.plan_rules.proofs.TapeTheorem.{widths-amount, put-fits}

@@ -17,7 +17,7 @@ use Rattle.records.specs.declared.PreparedReference.{PreparedReference}
 use Rattle.records.specs.declared.PreparedCell.{PreparedCell}
 use Rattle.records.specs.Records.{referenceAt, cellAt, cellReferenceAt}
 use Rattle.abstract_sheet.specs.Sheet.{sheetOf, cellRecordAt, references, cells}
-use Rattle.abstract_sheet.specs.Lookup.{item-read}
+use Rattle.abstract_sheet.proofs.Lookup.{item-read}
 use Rattle.plan_rules.specs.Event.{saturate}
 use Rattle.plan_rules.specs.Scratch.{countingPlace, rememberedPlace, countPlace, isMarked}
 use Rattle.plan_rules.specs.DrawUnits.{Units, counted, fold, addReferenceUnits, remember, referenceDrawUnits, sourceDrawUnits, cellDrawUnits}

@@ -16,7 +16,7 @@ use Rattle.records.specs.declared.PreparedSource.{PreparedSource}
 use Rattle.records.specs.declared.PreparedSource.the-variants.{Geometry, Text, Node, Reference, Cell}
 use Rattle.records.specs.Records.{cellReferenceAt}
 use Rattle.abstract_sheet.specs.Sheet.{sheetOf, cellRecordAt, cells}
-use Rattle.abstract_sheet.specs.Lookup.{item-read}
+use Rattle.abstract_sheet.proofs.Lookup.{item-read}
 use Rattle.plan_rules.specs.declared.ScenePlan.{ScenePlan}
 use Rattle.plan_rules.specs.World.{Query, detailBudgetExhausted, World, world, Flow, go, halt, each, ending, setMark}
 use Rattle.plan_rules.specs.Scratch.{openPlace}

@@ -19,7 +19,7 @@ use Rattle.walk.specs.Find.{find}
 use Rattle.records.specs.declared.PreparedReference.{PreparedReference}
 use Rattle.records.specs.Records.{referenceAt}
 use Rattle.abstract_sheet.specs.Sheet.{sheetOf, references}
-use Rattle.abstract_sheet.specs.Lookup.{item-read}
+use Rattle.abstract_sheet.proofs.Lookup.{item-read}
 use Rattle.plan_rules.specs.declared.SceneOptions.{SceneOptions}
 use Rattle.plan_rules.specs.Event.{nodeGridLimit, after, _⊞_}
 use Rattle.plan_rules.specs.World.{Query, queryOf, World, world, Flow, go, halt, flow, ending, each}

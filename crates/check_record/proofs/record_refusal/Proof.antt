@@ -1,7 +1,8 @@
 -- `questions::record_refusal` meets its contract: the questions are asked in order, and the first no is given.
 -- Assumes nothing.
 use mathlib.Core.Path.{sym, _∙_}
-use Rattle.check_record.specs.Record.{recordRefusal, frame-whole}
+use Rattle.check_record.specs.Record.{recordRefusal}
+use Rattle.check_record.proofs.RightRecords.{frame-whole}
 use borrow.Author.Needs.{needs}
 use Rattle.check_record.proofs.record_refusal.Statement.{statement}
 use Rattle.check_record.proofs.record_refusal.Tie as tie

@@ -13,8 +13,8 @@ use Rattle.check_sheet.specs.declared.Counts.{Counts}
 use Rattle.check_sheet.specs.declared.Checked.the-variants.{Sound}
 use Rattle.check_sheet.specs.Count.{countsOf}
 use Rattle.check_sheet.specs.Check.{firstNo, firstUnnamed}
-use Rattle.check_sheet.specs.Passes.{sound-all-right}
-use Rattle.check_sheet.specs.Answers.{too-long, record-refused, too-many-cells, then-links}
+use Rattle.check_sheet.proofs.Passes.{sound-all-right}
+use Rattle.check_sheet.proofs.Answers.{too-long, record-refused, too-many-cells, then-links}
 use borrow.Author.Needs.{needs}
 use Rattle.check_sheet.proofs.check_sheet.Statement.{statement}
 use Rattle.check_sheet.proofs.check_sheet.Tie as tie

@@ -15,7 +15,7 @@ use Rattle.geometry.specs.declared.bbox.Bounds.{Bounds}
 use Rattle.geometry.specs.Bbox.{boxed}
 use Rattle.records.specs.declared.PreparedText.{PreparedText}
 use Rattle.abstract_sheet.specs.Sheet.{CellRecord, Sheet, cellRecordAt, sheetOf}
-use Rattle.abstract_sheet.specs.Examples.{workedText, workedCell, workedSheet}
+use Rattle.abstract_sheet.proofs.Examples.{workedText, workedCell, workedSheet}
 use Rattle.exact.specs.Placement.{vectorOf}
 use Rattle.exact.specs.Box.{pointBox}
 use Rattle.exact.specs.Screen.{zoomPower}

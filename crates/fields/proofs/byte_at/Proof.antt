@@ -2,7 +2,7 @@
 use mathlib.Core.Path.{sym}
 use denote.Ref.{now}
 use Rattle.fields.specs.Field.{uintAt}
-use Rattle.fields.specs.Reading.{uintAt-past-end}
+use Rattle.fields.proofs.Reading.{uintAt-past-end}
 use borrow.Author.Needs.{needs}
 use Rattle.fields.proofs.byte_at.Statement.{statement}
 use Rattle.fields.proofs.byte_at.Tie as tie

@@ -1,7 +1,7 @@
 -- `fields::u16_at` meets its contract. Assumes nothing.
 use mathlib.Core.Path.{sym}
 use denote.Ref.{now}
-use Rattle.fields.specs.Reading.{uintAt-past-end}
+use Rattle.fields.proofs.Reading.{uintAt-past-end}
 use Rattle.fields.proofs.Halves.{read-halves}
 use borrow.Author.Needs.{needs}
 use Rattle.fields.proofs.u16_at.Statement.{statement}

@@ -9,7 +9,7 @@ use lib.Ieee.{Float, neg}
 use Rattle.geometry.specs.declared.bbox.WorldBBox.{WorldBBox}
 use Rattle.geometry.specs.Bbox.{bbox}
 use Rattle.abstract_sheet.specs.Sheet.{sheetOf}
-use Rattle.abstract_sheet.specs.Examples.{workedText, workedCell, workedSheet}
+use Rattle.abstract_sheet.proofs.Examples.{workedText, workedCell, workedSheet}
 use Rattle.plan_rules.specs.declared.Answer.the-variants.{Planned, Refused}
 use Rattle.plan_rules.specs.Limits.{maxSceneObjects}
 use Rattle.plan_rules.specs.World.{Query, World}

@@ -1,8 +1,8 @@
 -- To compute with the rules a proof names one definition: `unfolding opened` opens all of them, down to the floats.
 -- Assumes nothing.
 use Prim.Native.Nat.{ℕ}
-use Rattle.geometry.specs.Opened as geometry
-use Rattle.abstract_sheet.specs.Opened as layout
+use Rattle.geometry.proofs.Opened as geometry
+use Rattle.abstract_sheet.proofs.Opened as layout
 use Rattle.fields.specs.Field.{widths}
 use Rattle.plan_rules.specs.Event.{saturate, _⊞_, emptyPlan, after}
 use Rattle.plan_rules.specs.World.{contains, hides, detailCellsFull, detailBudgetExhausted, each}

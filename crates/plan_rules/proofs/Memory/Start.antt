@@ -12,7 +12,7 @@ use lib.Dec.{ltb}
 use borrow.Author.Tests.{ltb-true, ltb-false}
 use Rattle.walk.specs.Find.{countOf}
 use Rattle.abstract_sheet.specs.Sheet.{sheetOf, cells}
-use Rattle.abstract_sheet.specs.Lookup.{item-some, item-below}
+use Rattle.abstract_sheet.proofs.Lookup.{item-some, item-below}
 use Rattle.plan_rules.specs.Scratch.{countsNamed, marksNamed}
 use Rattle.plan_rules.proofs.Memory.Maps.{emptyMaps}
 use Rattle.plan_rules.proofs.Memory.Faithful.{Agree, zeroed-agree, CellsBelow}

@@ -1,6 +1,6 @@
 -- `tape::put_batch` meets its contract: its fields are written one after the other.
 -- Assumes nothing.
-use Rattle.fields.specs.Writing.{record-written, done, _⨾_}
+use Rattle.fields.proofs.Writing.{record-written, done, _⨾_}
 use native.Mathlib.Omega.{arith}
 use borrow.Author.Needs.{needs}
 use Rattle.tape.proofs.put_batch.Statement.{statement}

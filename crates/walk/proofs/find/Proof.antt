@@ -8,7 +8,8 @@ use native.Mathlib.Omega.{arith}
 use borrow.Author.Needs.{needs}
 use denote.Ref.{now}
 use lib.ListN.{length}
-use Rattle.walk.specs.Find.{find, findIn, findFrom, find-next, find-other, find-end, find-here, find-on, find-stop}
+use Rattle.walk.specs.Find.{find, findIn}
+use Rattle.walk.proofs.Finding.{findFrom, find-next, find-other, find-end, find-here, find-on, find-stop}
 use Rattle.walk.specs.declared.Found.{Found}
 use Rattle.walk.proofs.find.Statement.{statement}
 use Rattle.walk.proofs.find.Tie as tie

@@ -10,7 +10,8 @@ use lib.Ieee.{binary64, ofBits}
 use denote.Ref.{now}
 use Rattle.floats.specs.Order.{isFinite}
 use Rattle.fields.specs.Field.{uintAt, f64At}
-use Rattle.check_record.specs.Tests.{every, every-pass, every-fail, every-none}
+use Rattle.check_record.specs.Tests.{every}
+use Rattle.check_record.proofs.Tests.{every-pass, every-fail, every-none}
 use Rattle.check_record.specs.Floats.{finiteAt}
 use Rattle.check_record.proofs.finite.all_finite.Statement.{statement}
 use Rattle.check_record.proofs.finite.all_finite.Tie as tie

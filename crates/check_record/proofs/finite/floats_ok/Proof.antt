@@ -9,7 +9,7 @@ use Rattle.walk.specs.Offsets.{lengthAt, kindAt, Whole}
 use Rattle.check_record.specs.Shape.{shapeOk}
 use Rattle.check_record.specs.Floats.{floatsFrom, floatsCount, floatsOk}
 use native.Mathlib.Omega.{arith}
-use Rattle.check_record.specs.Facts.Lengths.{floats-within}
+use Rattle.check_record.proofs.Facts.Lengths.{floats-within}
 use borrow.Author.Needs.{needs}
 use Rattle.check_record.proofs.finite.floats_ok.Statement.{statement}
 use Rattle.check_record.proofs.finite.floats_ok.Tie as tie

@@ -7,7 +7,7 @@ use mathlib.Core.List.{List}
 use mathlib.Core.Bool.{Bool, true, false}
 use Rattle.walk.specs.Offsets.{Whole}
 use Rattle.check_record.specs.Frame.{frameOk}
-use Rattle.check_record.specs.Record.{frame-whole, whole-frame}
+use Rattle.check_record.proofs.RightRecords.{frame-whole, whole-frame}
 use borrow.Author.Needs.{needs}
 use Rattle.check_record.proofs.frame.frame_ok.Statement.{statement}
 use Rattle.check_record.proofs.frame.frame_ok.Tie as tie

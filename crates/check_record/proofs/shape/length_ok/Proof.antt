@@ -1,7 +1,8 @@
 -- `questions::shape::length_ok` meets its contract, kind by kind.
 -- Assumes nothing.
 use borrow.Author.Tests.{ne-eqb}
-use Rattle.check_record.specs.Tests.{both, tests}
+use Rattle.check_record.specs.Tests.{both}
+use Rattle.check_record.proofs.Tests.{tests}
 use Rattle.check_record.specs.Shape.{lengthOk}
 use borrow.Author.Needs.{needs}
 use Rattle.check_record.proofs.shape.length_ok.Statement.{statement}

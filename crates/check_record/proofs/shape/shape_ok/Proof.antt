@@ -5,7 +5,7 @@ use Prim.Native.Nat.{_+_, _*_}
 use native.Mathlib.Omega.{arith}
 use denote.Ref.{now}
 use Rattle.walk.specs.Offsets.{lengthAt}
-use Rattle.check_record.specs.Tests.{tests}
+use Rattle.check_record.proofs.Tests.{tests}
 use Rattle.check_record.specs.Shape.{listsAt, shapeOk}
 use borrow.Author.Needs.{needs}
 use Rattle.check_record.proofs.shape.shape_ok.Statement.{statement}

@@ -1,6 +1,7 @@
 -- `questions::values::source_ok` meets its contract: the code asks the definition's tests in its order.
 -- Assumes nothing.
-use Rattle.check_record.specs.Tests.{both, tests}
+use Rattle.check_record.specs.Tests.{both}
+use Rattle.check_record.proofs.Tests.{tests}
 use Rattle.check_record.specs.Values.{sourceOk}
 use Rattle.check_record.proofs.values.source_ok.Statement.{statement}
 use Rattle.check_record.proofs.values.source_ok.Tie as tie

@@ -2,9 +2,9 @@
 -- Assumes nothing.
 use mathlib.Core.Path.{sym, _∙_}
 use native.Mathlib.Omega.{arith}
-use Rattle.check_record.specs.Tests.{tests}
+use Rattle.check_record.proofs.Tests.{tests}
 use Rattle.check_record.specs.Values.{valuesOk}
-use Rattle.check_record.specs.Facts.Lengths.{shape-sized}
+use Rattle.check_record.proofs.Facts.Lengths.{shape-sized}
 use borrow.Author.Needs.{needs}
 use Rattle.check_record.proofs.values.values_ok.Statement.{statement}
 use Rattle.check_record.proofs.values.values_ok.Tie as tie

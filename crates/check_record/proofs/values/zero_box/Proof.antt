@@ -1,8 +1,9 @@
 -- `questions::values::zero_box` meets its contract: 32 zero bytes are four fields of eight that are 0.
 -- Assumes nothing.
 use denote.Ref.{now}
-use Rattle.check_record.specs.Tests.{both, tests}
-use Rattle.check_record.specs.Facts.Numbers.{zero-box-fields}
+use Rattle.check_record.specs.Tests.{both}
+use Rattle.check_record.proofs.Tests.{tests}
+use Rattle.check_record.proofs.Facts.Numbers.{zero-box-fields}
 use borrow.Author.Needs.{needs}
 use Rattle.check_record.proofs.values.zero_box.Statement.{statement}
 use Rattle.check_record.proofs.values.zero_box.Tie as tie

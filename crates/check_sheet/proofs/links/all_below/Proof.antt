@@ -9,7 +9,8 @@ use lib.ListN.{length}
 use denote.Ref.{now}
 use borrow.Author.Tests.{lt-ltb, le-ltb}
 use Rattle.fields.specs.Field.{uintAt}
-use Rattle.check_record.specs.Tests.{every, every-pass, every-fail, every-none}
+use Rattle.check_record.specs.Tests.{every}
+use Rattle.check_record.proofs.Tests.{every-pass, every-fail, every-none}
 use Rattle.check_sheet.specs.Links.{belowAt}
 use Rattle.check_sheet.proofs.links.all_below.Statement.{statement}
 use Rattle.check_sheet.proofs.links.all_below.Tie as tie

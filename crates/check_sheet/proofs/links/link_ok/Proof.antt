@@ -4,8 +4,8 @@ use mathlib.Core.Path.{_≡_, sym, _∙_}
 use native.Mathlib.Omega.{arith}
 use denote.Ref.{now}
 use Rattle.walk.specs.Offsets.{lengthAt}
-use Rattle.check_record.specs.Tests.{tests}
-use Rattle.check_record.specs.Facts.Lengths.{shape-sized}
+use Rattle.check_record.proofs.Tests.{tests}
+use Rattle.check_record.proofs.Facts.Lengths.{shape-sized}
 use Rattle.check_sheet.specs.Links.{linkOk}
 use borrow.Author.Needs.{needs}
 use Rattle.check_sheet.proofs.links.link_ok.Statement.{statement}

@@ -7,12 +7,14 @@ use borrow.Author.Needs.{needs}
 use mathlib.Core.List.{List}
 use lib.ListN.{length}
 use denote.Ref.{now}
-use Rattle.walk.specs.Offsets.{lengthAt, offsetsFrom, offsets, offsets-more, offsets-end}
-use Rattle.walk.specs.Every.{All, all-step}
+use Rattle.walk.specs.Offsets.{lengthAt, offsetsFrom, offsets}
+use Rattle.walk.proofs.Offsets.{offsets-more, offsets-end}
+use Rattle.walk.specs.Every.{All}
+use Rattle.walk.proofs.Every.{all-step}
 use Rattle.check_record.specs.Record.{Right}
 use Rattle.check_sheet.specs.declared.Checked.the-variants.{Sound}
 use Rattle.check_sheet.specs.Check.{firstUnnamed}
-use Rattle.check_sheet.specs.Passes.{first-unnamed-pass, first-unnamed-stop}
+use Rattle.check_sheet.proofs.Passes.{first-unnamed-pass, first-unnamed-stop}
 use Rattle.check_sheet.proofs.Passed.{tallied-next}
 use Rattle.check_sheet.proofs.links.links.Statement.{statement}
 use Rattle.check_sheet.proofs.links.links.Tie as tie

@@ -7,12 +7,14 @@ use borrow.Author.Needs.{needs}
 use mathlib.Core.List.{List}
 use lib.ListN.{length}
 use denote.Ref.{now}
-use Rattle.walk.specs.Offsets.{offsetsFrom, offsets, offsets-some, offsets-more, offsets-end}
-use Rattle.check_record.specs.Record.{Right, no-zero-right}
+use Rattle.walk.specs.Offsets.{offsetsFrom, offsets}
+use Rattle.walk.proofs.Offsets.{offsets-some, offsets-more, offsets-end}
+use Rattle.check_record.specs.Record.{Right}
+use Rattle.check_record.proofs.RightRecords.{no-zero-right}
 use Rattle.check_sheet.specs.declared.Checked.the-variants.{Sound, Refused}
 use Rattle.check_sheet.specs.Count.{countsOf}
 use Rattle.check_sheet.specs.Check.{firstNo}
-use Rattle.check_sheet.specs.Passes.{first-no-pass, first-no-stop}
+use Rattle.check_sheet.proofs.Passes.{first-no-pass, first-no-stop}
 use Rattle.check_sheet.proofs.Passed.{Passed, passed-step, passed-end}
 use Rattle.check_sheet.proofs.scan.scan.Statement.{statement}
 use Rattle.check_sheet.proofs.scan.scan.Tie as tie

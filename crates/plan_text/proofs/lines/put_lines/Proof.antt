@@ -8,7 +8,7 @@ use native.Mathlib.Omega.{arith}
 use lib.ListN.{length, take, drop}
 use denote.Ref.{now}
 use borrow.Author.Needs.{needs}
-use Rattle.walk.specs.Offsets.{by-order}
+use Rattle.walk.proofs.Offsets.{by-order}
 use Rattle.plan_text.specs.Text.{linesFrom}
 use Rattle.plan_text.specs.Written.{lineRoom}
 use Rattle.plan_text.proofs.TapeLines.{from-here, next-further, put-so-far, rest-as-lent}

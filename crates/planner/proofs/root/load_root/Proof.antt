@@ -7,7 +7,7 @@ use Rattle.geometry.specs.declared.bbox.WorldBBox.{WorldBBox}
 use Rattle.geometry.specs.Bbox.{overlaps}
 use Rattle.records.specs.declared.PreparedCell.{PreparedCell}
 use Rattle.abstract_sheet.specs.Sheet.{cells, cellRecordAt}
-use Rattle.abstract_sheet.specs.Lookup.{item-read}
+use Rattle.abstract_sheet.proofs.Lookup.{item-read}
 use Rattle.plan_rules.specs.World.{world}
 use Rattle.plan_rules.specs.Push.{addLoad}
 use Rattle.plan_rules.specs.Tape.{noTag, onTape}

@@ -12,7 +12,7 @@ use Rattle.geometry.specs.declared.screen.ScreenSize.{ScreenSize}
 use Rattle.geometry.specs.Bbox.{transformBbox, overlaps}
 use Rattle.geometry.specs.Screen.{screenSize, isSubpixel, isDenseBatch}
 use Rattle.abstract_sheet.specs.Sheet.{sheetOf, geometries}
-use Rattle.abstract_sheet.specs.Lookup.{item-read}
+use Rattle.abstract_sheet.proofs.Lookup.{item-read}
 use Rattle.plan_rules.specs.World.{Query, queryOf, hides, detailBudgetExhausted, World, world}
 use Rattle.plan_rules.specs.Push.{noLabel, addLoad}
 use Rattle.plan_rules.specs.Tape.{noTag, onTape}

@@ -4,7 +4,7 @@ use mathlib.Core.Path.{sym, ap, _∙_}
 use denote.Ref.{now}
 use Rattle.records.specs.declared.PreparedNode.{PreparedNode}
 use Rattle.abstract_sheet.specs.Sheet.{nodeRecordAt, nodes}
-use Rattle.abstract_sheet.specs.Lookup.{item-read}
+use Rattle.abstract_sheet.proofs.Lookup.{item-read}
 use Rattle.plan_rules.specs.World.{queryOf, hides}
 use Rattle.plan_rules.specs.Tape.{noTag, onTape}
 use Rattle.plan_rules.proofs.Paths.Pushes.{node-missing, node-hidden, node-shown}

@@ -9,7 +9,7 @@ use Rattle.geometry.specs.declared.placement.DVec2.{DVec2}
 use Rattle.geometry.specs.Placement.{transformPoint2}
 use Rattle.geometry.specs.Bbox.{pointInBbox}
 use Rattle.abstract_sheet.specs.Sheet.{sheetOf, texts}
-use Rattle.abstract_sheet.specs.Lookup.{item-read}
+use Rattle.abstract_sheet.proofs.Lookup.{item-read}
 use Rattle.plan_rules.specs.Event.{text}
 use Rattle.plan_rules.specs.World.{queryOf, hides, world}
 use Rattle.plan_rules.specs.Push.{say}

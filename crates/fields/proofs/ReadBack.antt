@@ -12,8 +12,8 @@ use lib.Dec.{T}
 use lib.Ieee.{Float, binary64, fits, ofBits, toBits}
 use lib.Ieee.Bits.{ofBits-toBits, toBits-lt}
 use Rattle.fields.specs.Field.{uintAt, uintBytes, f64At, f64Bytes}
-use Rattle.fields.specs.Reading.{uintAt-same}
-use Rattle.fields.specs.Writing.{length-uintBytes, mod-pow256-suc}
+use Rattle.fields.proofs.Reading.{uintAt-same}
+use Rattle.fields.proofs.Writing.{length-uintBytes, mod-pow256-suc}
 
 -- ---- one byte
 

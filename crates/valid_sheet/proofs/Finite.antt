@@ -10,9 +10,9 @@ use Rattle.records.specs.declared.PreparedText.{PreparedText}
 use Rattle.records.specs.declared.PreparedReference.{PreparedReference}
 use Rattle.records.specs.Records.{dvec2At, worldBBoxAt, boundsAt, geometryAt, textAt, nodeAt, nodePointAt, gridAt, referenceAt, cellAt}
 use Rattle.abstract_sheet.specs.Sheet.{NodeRecord, CellRecord, sheetOf, nodeRecordAt, cellRecordAt, geometries, texts, nodes, references, cells}
-use Rattle.abstract_sheet.specs.Lookup.{item-located}
+use Rattle.abstract_sheet.proofs.Lookup.{item-located}
 use Rattle.check_sheet.specs.Valid.{Valid}
-use Rattle.check_sheet.specs.Laws.Floats as laws
+use Rattle.check_sheet.proofs.Laws.Floats as laws
 use Rattle.valid_sheet.specs.WellFormed.{FinitePoint, FiniteBBox, FiniteBounds, absent, present, FiniteGrid}
 
 -- ---- At an offset

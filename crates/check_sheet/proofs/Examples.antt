@@ -21,7 +21,7 @@ use lib.Ieee.{ofBits, ofFields, odd}
 use Rattle.check_sheet.specs.declared.Checked.the-variants.{Sound, Refused}
 use Rattle.check_sheet.specs.Count.{countsOf, tallied}
 use Rattle.check_sheet.specs.Links.{sourceNamed, belowAt, listsNamed, linkOk}
-use Rattle.check_sheet.specs.Answers.{too-long}
+use Rattle.check_sheet.proofs.Answers.{too-long}
 use Rattle.check_sheet.specs.Check.{firstNo, firstUnnamed, checkSheet, numberOf, offsetOf}
 
 -- ---- Records

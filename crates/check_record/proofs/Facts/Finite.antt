@@ -9,7 +9,7 @@ use lib.Ieee.{Float, nan, inf, binary64, ofBits, ofFields, odd, prec, low, hid, 
 use Rattle.floats.specs.Order.{isFinite}
 use Rattle.fields.specs.Field.{f64At}
 use Rattle.walk.specs.Offsets.{lengthAt, kindAt}
-use Rattle.check_record.specs.Tests.{every-at}
+use Rattle.check_record.proofs.Tests.{every-at}
 use Rattle.check_record.specs.Floats.{finiteAt, floatsFrom, floatsCount, floatsOk}
 
 -- ---- A float by its pattern

@@ -8,7 +8,7 @@ use mathlib.Core.Bool.{Bool, true, cond}
 use lib.Dec.{T, eqb}
 use borrow.Author.Tests.{leb-true, eqb-true, ne-eqb}
 use Rattle.walk.specs.Offsets.{lengthAt, kindAt}
-use Rattle.check_record.specs.Tests.{both-first, both-second}
+use Rattle.check_record.proofs.Tests.{both-first, both-second}
 use Rattle.check_record.specs.Shape.{listsAt, lengthOk, shapeOk}
 use Rattle.check_record.specs.Floats.{floatsFrom, floatsCount}
 

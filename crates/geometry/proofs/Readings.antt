@@ -15,7 +15,7 @@ use Rattle.geometry.specs.Placement.{vec, zeroFloat, oneFloat}
 use Rattle.geometry.specs.Bbox.{bbox}
 use Rattle.geometry.specs.Grid.{gridCount}
 use Rattle.geometry.specs.Screen.{refLoadThresholdPx, screenSize, isSubpixel, isDenseBatch, shouldCollapseReference}
-use Rattle.geometry.specs.Opened.{opened}
+use Rattle.geometry.proofs.Opened.{opened}
 
 -- ---- small things to ask about
 

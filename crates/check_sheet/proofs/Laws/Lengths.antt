@@ -8,11 +8,11 @@ use lib.ListN.{length}
 use Rattle.fields.specs.Field.{uintAt}
 use Rattle.walk.specs.Offsets.{lengthAt, kindAt}
 use Rattle.walk.specs.Find.{find}
-use Rattle.walk.specs.Every.{find-all}
+use Rattle.walk.proofs.Every.{find-all}
 use Rattle.walk.specs.declared.Found.the-variants.{At}
 use Rattle.check_record.specs.Shape.{listsAt}
 use Rattle.check_record.specs.Record.{Right}
-use Rattle.check_record.specs.Facts.Lengths.{Sized, shape-sized}
+use Rattle.check_record.proofs.Facts.Lengths.{Sized, shape-sized}
 use Rattle.check_sheet.specs.Valid.{Valid}
 
 module _ (s : List ℕ) (valid : Valid s) where

@@ -8,12 +8,12 @@ use mathlib.Core.Option.{some}
 use Rattle.records.specs.declared.PreparedReference.{PreparedReference}
 use Rattle.records.specs.Records.{nodeAt, gridAt, referenceAt}
 use Rattle.abstract_sheet.specs.Sheet.{NodeRecord, CellRecord, sheetOf, nodeRecordAt, nodes, references, cells}
-use Rattle.abstract_sheet.specs.Lookup.{item-located, item-below}
+use Rattle.abstract_sheet.proofs.Lookup.{item-located, item-below}
 use Rattle.check_sheet.specs.Valid.{Valid}
-use Rattle.check_sheet.specs.Laws.Lengths.{node-points}
-use Rattle.check_sheet.specs.Laws.Values.{columns-most, rows-most}
+use Rattle.check_sheet.proofs.Laws.Lengths.{node-points}
+use Rattle.check_sheet.proofs.Laws.Values.{columns-most, rows-most}
 use Rattle.valid_sheet.specs.WellFormed.{ReferenceLimits, NodeLimits}
-use Rattle.valid_sheet.specs.Named.{cell-source-below}
+use Rattle.valid_sheet.proofs.Named.{cell-source-below}
 
 module _ (s : List ℕ) (valid : Valid s) (n : ℕ) where
   -- question 6

@@ -7,16 +7,18 @@ use mathlib.Core.List.{List}
 use mathlib.Core.Option.{some}
 use Rattle.fields.specs.Field.{uintAt}
 use Rattle.walk.specs.declared.Found.the-variants.{At}
-use Rattle.walk.specs.Find.{find, countOf, found-below}
+use Rattle.walk.specs.Find.{find, countOf}
+use Rattle.walk.proofs.Finding.{found-below}
 use Rattle.records.specs.declared.PreparedSource.the-variants.{Cell}
 use Rattle.records.specs.declared.PreparedReference.{PreparedReference}
 use Rattle.records.specs.Records.{sourceOf, referenceAt, cellAt, textsFrom, nodesFrom, referencesFrom, cellNumberAt, cellGeometryAt, cellTextAt, cellNodeAt, cellReferenceAt}
-use Rattle.records.specs.Sources.{sourceKind, sourceNumber, source-kind, source-number}
+use Rattle.records.specs.Sources.{sourceKind, sourceNumber}
+use Rattle.records.proofs.Sources.{source-kind, source-number}
 use Rattle.abstract_sheet.specs.Sheet.{CellRecord, sheetOf, cellRecordAt, Kind, geometries, texts, nodes, references, cells, kindNumber, numbers, source}
-use Rattle.abstract_sheet.specs.Lookup.{item-some, item-located}
+use Rattle.abstract_sheet.proofs.Lookup.{item-some, item-located}
 use Rattle.check_sheet.specs.Valid.{Valid}
-use Rattle.check_sheet.specs.Laws.Values.{reference-values-ok}
-use Rattle.check_sheet.specs.Laws.Named.{reference-source-exists, cell-geometry-exists, cell-text-exists, cell-node-exists, cell-reference-exists}
+use Rattle.check_sheet.proofs.Laws.Values.{reference-values-ok}
+use Rattle.check_sheet.proofs.Laws.Named.{reference-source-exists, cell-geometry-exists, cell-text-exists, cell-node-exists, cell-reference-exists}
 use Rattle.valid_sheet.specs.WellFormed.{CellNamed, SourceNamed}
 
 -- a source of a kind has the kind and the number

@@ -9,10 +9,11 @@ use mathlib.Core.Bool.{Bool, true, false, cond}
 use lib.Dec.{eqb, eqb·suc-zero}
 use borrow.Author.Tests.{ltb-true, leb-true, eq-eqb, ne-eqb}
 use Rattle.fields.specs.Field.{uintAt}
-use Rattle.fields.specs.Reading.{uintAt-add}
-use Rattle.fields.specs.Writing.{pow256-pos}
+use Rattle.fields.proofs.Reading.{uintAt-add}
+use Rattle.fields.proofs.Writing.{pow256-pos}
 use Rattle.walk.specs.Offsets.{kindAt}
-use Rattle.check_record.specs.Tests.{both, both-first, both-second}
+use Rattle.check_record.specs.Tests.{both}
+use Rattle.check_record.proofs.Tests.{both-first, both-second}
 use Rattle.check_record.specs.Values.{zeroBox, sourceOk, gridOk, referenceOk, cellOk, valuesOk}
 
 -- ---- An absent box, in fields of eight bytes

@@ -11,9 +11,9 @@ use Rattle.walk.specs.Offsets.{lengthAt, kindAt}
 use Rattle.walk.specs.Find.{find}
 use Rattle.walk.specs.declared.Found.the-variants.{At}
 use Rattle.check_record.specs.Floats.{floatsFrom, floatsCount}
-use Rattle.check_record.specs.Facts.Finite.{float-finite}
+use Rattle.check_record.proofs.Facts.Finite.{float-finite}
 use Rattle.check_sheet.specs.Valid.{Valid}
-use Rattle.check_sheet.specs.Laws.Lengths.{found-right, pointsAt, node-points}
+use Rattle.check_sheet.proofs.Laws.Lengths.{found-right, pointsAt, node-points}
 
 -- ---- Definitions
 

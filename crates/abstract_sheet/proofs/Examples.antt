@@ -12,7 +12,7 @@ use Rattle.geometry.specs.declared.bbox.Bounds.the-variants.{Absent, Box}
 use Rattle.walk.specs.Offsets.{offsets}
 use Rattle.records.specs.declared.PreparedSource.the-variants.{Cell}
 use Rattle.abstract_sheet.specs.Sheet.{NodeRecord, CellRecord, sheetOf, nodeRecordAt, cellRecordAt}
-use Rattle.abstract_sheet.specs.Opened.{opened}
+use Rattle.abstract_sheet.proofs.Opened.{opened}
 
 -- whole numbers as floats
 abbrev nought : Float

@@ -9,16 +9,19 @@ use lib.Dec.{eqb}
 use borrow.Author.Tests.{ltb-true, eqb-true, eqb-false}
 use Rattle.fields.specs.Field.{uintAt}
 use Rattle.walk.specs.Offsets.{kindAt, offsets}
-use Rattle.walk.specs.Find.{find, findIn, ofKindIn, answer, countOf, find-hit, find-next, find-other}
-use Rattle.walk.specs.Every.{All, find-all}
+use Rattle.walk.specs.Find.{find, findIn, ofKindIn, answer, countOf}
+use Rattle.walk.proofs.Finding.{find-hit, find-next, find-other}
+use Rattle.walk.specs.Every.{All}
+use Rattle.walk.proofs.Every.{find-all}
 use Rattle.walk.specs.declared.Found.the-variants.{At}
-use Rattle.check_record.specs.Tests.{both-first, both-second, every, every-at}
+use Rattle.check_record.specs.Tests.{every}
+use Rattle.check_record.proofs.Tests.{both-first, both-second, every-at}
 use Rattle.check_sheet.specs.declared.Counts.{Counts}
 use Rattle.check_sheet.specs.Count.{countsOf, tallied}
 use Rattle.check_sheet.specs.Links.{sourceNamed, belowAt, listsNamed, linkOk}
 use Rattle.check_sheet.specs.Passes.{AllNamed}
 use Rattle.check_sheet.specs.Valid.{Valid}
-use Rattle.check_sheet.specs.Laws.Lengths.{found-right}
+use Rattle.check_sheet.proofs.Laws.Lengths.{found-right}
 
 -- ---- A reference's own number is the one by which it is found
 

@@ -13,7 +13,7 @@ use Rattle.check_sheet.specs.declared.Counts.{Counts}
 use Rattle.check_sheet.specs.declared.Checked.the-variants.{Sound, Refused}
 use Rattle.check_sheet.specs.Count.{countsOf}
 use Rattle.check_sheet.specs.Check.{firstNo, firstUnnamed, checkSheet}
-use Rattle.check_sheet.specs.Passes.{all-right-later, refused-before-any}
+use Rattle.check_sheet.proofs.Passes.{all-right-later, refused-before-any}
 
 module _ (s : List ℕ) where
   -- "Is the sheet at most 16,777,216 bytes? No: 1."

@@ -10,11 +10,11 @@ use borrow.Author.Tests.{eqb-true}
 use Rattle.fields.specs.Field.{uintAt, f64At}
 use Rattle.walk.specs.Find.{find, countOf}
 use Rattle.walk.specs.declared.Found.the-variants.{At}
-use Rattle.check_record.specs.Tests.{both-first, both-second}
+use Rattle.check_record.proofs.Tests.{both-first, both-second}
 use Rattle.check_record.specs.Values.{zeroBox}
-use Rattle.check_record.specs.Facts.Numbers.{GridOk, FlagsOk, zero-box-fields, reference-values, cell-values}
+use Rattle.check_record.proofs.Facts.Numbers.{GridOk, FlagsOk, zero-box-fields, reference-values, cell-values}
 use Rattle.check_sheet.specs.Valid.{Valid}
-use Rattle.check_sheet.specs.Laws.Lengths.{found-right}
+use Rattle.check_sheet.proofs.Laws.Lengths.{found-right}
 
 -- "An absent box is 32 zero bytes.": so each of its floats is the one whose pattern is 0
 pub record ZeroBox (s : List ℕ) (at : ℕ) : Type 0 where

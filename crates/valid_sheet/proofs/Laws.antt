@@ -5,9 +5,9 @@ use mathlib.Core.List.{List}
 use Rattle.abstract_sheet.specs.Sheet.{sheetOf}
 use Rattle.check_sheet.specs.Valid.{Valid}
 use Rattle.valid_sheet.specs.WellFormed.{WellFormed}
-use Rattle.valid_sheet.specs.Named.{cell-named, source-named}
-use Rattle.valid_sheet.specs.Limits.{few-cells, reference-limits, node-limits}
-use Rattle.valid_sheet.specs.Finite.{geometry-finite, text-finite, node-finite, grid-finite, source-box-finite, cell-box-finite}
+use Rattle.valid_sheet.proofs.Named.{cell-named, source-named}
+use Rattle.valid_sheet.proofs.Limits.{few-cells, reference-limits, node-limits}
+use Rattle.valid_sheet.proofs.Finite.{geometry-finite, text-finite, node-finite, grid-finite, source-box-finite, cell-box-finite}
 
 pub valid-well-formed : (s : List ℕ) → Valid s → WellFormed (sheetOf s)
 valid-well-formed s valid =

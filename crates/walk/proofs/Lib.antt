@@ -1,0 +1,8 @@
+-- Facts about this crate's definitions and code.
+--     Offsets      the three equations of the list of offsets, which are all that a walk needs
+--     Finding      the steps by which a walk finds a record by its number
+--     Every        facts of every record, and of the one that is found
+-- Assumes nothing.
+pub mod Offsets
+pub mod Finding
+pub mod Every
