@@ -106,7 +106,7 @@ abbrev Lost : (limit : ℕ) → Trace → Type 0
 Lost limit trace = LosesNothing labelled (see limit) trace → ⊥
 
 -- what the rules leave where no object may be listed: the cell's box
-limit-plan : events labelled 1 (see 0) (replicate 3 0) (replicate 1 0) ≡ ([], totals (record { «tape_end» = 42; texts = 0; «load_proxies» = 1; «detail_cells» = 0; «detail_objects» = 0; «culled_references» = 0; «skipped_subpixel_references» = 0; «culled_geometry_batches» = 0; «skipped_subpixel_geometry_batches» = 0 }))
+limit-plan : events labelled 1 (see 0) (replicate 1 0) (replicate 3 0) ≡ ([], totals (record { «tape_end» = 42; texts = 0; «load_proxies» = 1; «detail_cells» = 0; «detail_objects» = 0; «culled_references» = 0; «skipped_subpixel_references» = 0; «culled_geometry_batches» = 0; «skipped_subpixel_geometry_batches» = 0 }))
     ∷ ([], proxy 0 (page 100 100)) ∷ []
 unfolding opened
 limit-plan = refl
@@ -171,7 +171,7 @@ strip-seen =
     (omega arith, record { left = omega arith; right = omega arith; bottom = omega arith; top = omega arith })
 
 -- the rules list it
-strip-plan : withoutTotals (events striped 1 half (replicate 3 0) (replicate 1 0)) ≡ (batchAt 0 ∷ [], batch 0 IDENTITY) ∷ ([], detailCell) ∷ []
+strip-plan : withoutTotals (events striped 1 half (replicate 1 0) (replicate 3 0)) ≡ (batchAt 0 ∷ [], batch 0 IDENTITY) ∷ ([], detailCell) ∷ []
 unfolding opened
 strip-plan = refl
 
@@ -234,7 +234,7 @@ unfolding opened
 round-seen = record { left = omega arith; right = omega arith; bottom = omega arith; top = omega arith }
 
 -- the rules end the circle in a proxy
-circle-plan : withoutTotals (events circular 1 deep (replicate 5 0) (replicate 3 0))
+circle-plan : withoutTotals (events circular 1 deep (replicate 3 0) (replicate 5 0))
     ≡ (referenceAt 0 ∷ member 0 0 ∷ [], proxy 0 (page 100 100)) ∷ (textAt 0 ∷ [], text 0 (spot 10 20)) ∷ ([], detailCell) ∷ []
 unfolding opened
 circle-plan = refl
@@ -272,7 +272,7 @@ dotted = sheetOfLists [] [] (dot ∷ []) (dots ∷ []) (dottedCell ∷ [])
 abbrev bothDots : Trace
 bothDots = (referenceAt 0 ∷ member 0 1 ∷ pointAt 0 ∷ [], point 1 2 (spot 10 60)) ∷ (referenceAt 0 ∷ member 0 0 ∷ pointAt 0 ∷ [], point 1 2 (spot 10 20)) ∷ ([], detailCell) ∷ []
 
-dots-plan : withoutTotals (events dotted 1 deep (replicate 5 0) (replicate 3 0)) ≡ bothDots
+dots-plan : withoutTotals (events dotted 1 deep (replicate 3 0) (replicate 5 0)) ≡ bothDots
 unfolding opened
 dots-plan = refl
 
@@ -298,7 +298,7 @@ newest [] = detailCell
 newest (x ∷ l) = x .1
 
 -- but it is not what the rules leave, as `IsTape` asks
-limit-invented : withoutTotals (events dotted 1 deep (replicate 5 0) (replicate 3 0)) ≡ invented → ⊥
+limit-invented : withoutTotals (events dotted 1 deep (replicate 3 0) (replicate 5 0)) ≡ invented → ⊥
 limit-invented e = let f : point 1 2 (spot 10 60) ≡ nodeGridLimit = ap newest (sym dots-plan ∙ e) in let z : _≡_ {A = ℕ} 0 1 = cc in let y : ⊥ = omega arith in y
 
 -- of any call: no event can be added, written or not

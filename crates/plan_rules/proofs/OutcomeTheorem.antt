@@ -49,13 +49,13 @@ module _ (S : Sheet) (cells : ℕ) (q : Query) (o k m : List ℕ) where
   pub delivered-planned : length o < maxTotal → written .state .«tape_end» ≤ length o → delivered (tapeOf S cells q) nk nm o k m ≡ outcome (Planned (written .state .«tape_end»)) (written .out) (zeroed nk k) (zeroed nm m)
   unfolding delivered tapeOf freshPlan
   delivered-planned small h =
-      let fits = fits-by-end noTag S cells q tt o (replicate nm 0) (replicate nk 0) small h in
-      let t = the-tape noTag S cells q tt o (replicate nm 0) (replicate nk 0) small fits in
+      let fits = fits-by-end noTag S cells q tt o (replicate nk 0) (replicate nm 0) small h in
+      let t = the-tape noTag S cells q tt o (replicate nk 0) (replicate nm 0) small fits in
       rw (le-leb _ _ fits, t .0, t .1)
 
   pub delivered-refused : length o < written .state .«tape_end» → delivered (tapeOf S cells q) nk nm o k m ≡ outcome (Refused 12 0) (replicate (length o) 0) (zeroed nk k) (zeroed nm m)
   unfolding delivered tapeOf freshPlan
-  delivered-refused h = rw (lt-leb _ _ (exceeds-by-end noTag S cells q tt o (replicate nm 0) (replicate nk 0) h))
+  delivered-refused h = rw (lt-leb _ _ (exceeds-by-end noTag S cells q tt o (replicate nk 0) (replicate nm 0) h))
 
   -- THE TAPE OF A CALL: what a run that writes leaves, read as an outcome
   unfoldable pub writtenOutcome : Outcome

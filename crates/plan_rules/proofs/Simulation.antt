@@ -56,10 +56,10 @@ module _ {A B : Type 0} (R : ScenePlan → A → B → Type 0) where
   KeepsSource x f g = (s : ScenePlan) (a : A) (b : B) (k m : List ℕ) → R s a b → RelatedSource R x (f (world s a k m)) (g (world s b k m))
 
   pub apply-sim : {w : World A} {v : World B} (f : World A → World A) (g : World B → World B) → Keeps f g → Related R w v → Related R (f w) (g v)
-  apply-sim f g h (related {s} {a} {b} {m} {k} r) = h s a b k m r
+  apply-sim f g h (related {s} {a} {b} {k} {m} r) = h s a b k m r
 
   pub apply-flow-sim : {w : World A} {v : World B} (f : World A → Flow A) (g : World B → Flow B) → KeepsFlow f g → Related R w v → RelatedFlow R (f w) (g v)
-  apply-flow-sim f g h (related {s} {a} {b} {m} {k} r) = h s a b k m r
+  apply-flow-sim f g h (related {s} {a} {b} {k} {m} r) = h s a b k m r
 
   pub cond-sim : (t : Bool) {w w′ : World A} {v v′ : World B} → (Yes t → Related R w v) → (Yes (not t) → Related R w′ v′) → Related R (cond t w w′) (cond t v v′)
   cond-sim true h g = h tt

@@ -169,10 +169,10 @@ brought limit = record { view = box-is (page 200 200) (square-box 0 0 200 200 (o
 
 -- from zeroed scratch: two cells, so 10 marks and 6 counts
 abbrev pub trace : ℕ → Trace
-trace limit = events mixed 2 (query limit) (replicate 10 0) (replicate 6 0)
+trace limit = events mixed 2 (query limit) (replicate 6 0) (replicate 10 0)
 
 pub mixed-loses-nothing : (limit : ℕ) → LosesNothing mixed (query limit) (trace limit)
-mixed-loses-nothing limit = demand-3-of-rules mixed square true-boxes few (query limit) (brought limit) 2 (replicate 10 0) (replicate 6 0)
+mixed-loses-nothing limit = demand-3-of-rules mixed square true-boxes few (query limit) (brought limit) 2 (replicate 6 0) (replicate 10 0)
 
 -- ---- the plans, the newest event first, without the totals
 

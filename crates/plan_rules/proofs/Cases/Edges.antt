@@ -76,11 +76,11 @@ memberCase box zoom =
 -- a grid of a cell with 0 units, at depth 2
 abbrev gridUnits : ℕ → ℕ → ℕ
 gridUnits columns rows =
-    (referenceDrawUnits (sheetOfLists [] [] [] (refer columns rows 0 0 (Cell 0) (page 1 1) ∷ []) (cellOf 0 (page 1 1) [] [] [] [] ∷ [])) 1 2 0 (replicate 4 0) (replicate 2 0)) .units
+    (referenceDrawUnits (sheetOfLists [] [] [] (refer columns rows 0 0 (Cell 0) (page 1 1) ∷ []) (cellOf 0 (page 1 1) [] [] [] [] ∷ [])) 1 2 0 (replicate 2 0) (replicate 4 0)) .units
 
 -- the units of a cell of the circle, from zeroed scratch for depth 3
 abbrev circleUnits : ℕ → ℕ → Units
-circleUnits depth n = cellDrawUnits circle 2 depth n (replicate 10 0) (replicate 6 0)
+circleUnits depth n = cellDrawUnits circle 2 depth n (replicate 6 0) (replicate 10 0)
 
 abbrev half : Float
 half = fin false 1 (negsuc 0)
@@ -190,7 +190,7 @@ apart = sheetOfLists [] [] [] [] (cellOf 5 (page 1 1) [] [] [] [] ∷ cellOf 7 (
 
 -- cell 0 was counted at depth 1
 abbrev once : Units
-once = cellDrawUnits apart 2 1 0 (replicate 10 0) (replicate 6 0)
+once = cellDrawUnits apart 2 1 0 (replicate 6 0) (replicate 10 0)
 
 pub memory : List Case
 memory =

@@ -29,7 +29,7 @@ deep d = ne-eqb (suc d) 0 (λ q. let z : ⊥ = omega arith in z)
 
 -- what the places hold for a cell and a depth
 unfoldable pub recalled : ℕ → List ℕ → List ℕ → ℕ → ℕ → Option ℕ
-recalled n k m c d = cond (some (getD k (place n (d - 1) c) 0)) (isMarked m (place n (d + 1) c)) none
+recalled n k m c d = cond (isMarked m (place n (d + 1) c)) (some (getD k (place n (d - 1) c) 0)) none
 
 pub record Agree (n D : ℕ) (k m : List ℕ) (w : Maps) : Type 0 where
   pub marks-room : (D + 2) * n ≤ length m
@@ -46,7 +46,7 @@ pub record Same (n D : ℕ) (x : Units) (t : Tally) : Type 0 where
   pub agree : Agree n D (x .counts) (x .marks) (t .maps)
 
 -- zeroed places are the empty maps
-pub zeroed-agree : (n D : ℕ) → Agree n D (replicate ((D + 2) * n) 0) (replicate (D * n) 0) emptyMaps
+pub zeroed-agree : (n D : ℕ) → Agree n D (replicate (D * n) 0) (replicate ((D + 2) * n) 0) emptyMaps
 unfolding recalled
 zeroed-agree n D = record {
   marks-room = let e = length-replicate {A = ℕ} ((D + 2) * n) 0 in omega (arith, e);
@@ -132,7 +132,7 @@ module _ (n D : ℕ) where
         other : (x y : ℕ) → x < n → 0 < y → y ≤ D → (y ≡ d → x ≡ c → ⊥) → recalled n (set k (place n (d - 1) c) u) (set m (place n (d + 1) c) 1) x y ≡ w .cache x y
         other x y hx hy hz g =
             ap (λ (t : Bool). cond t (some (getD (set k (place n (d - 1) c) u) (place n (y - 1) x) 0)) none) (mark-elsewhere m (a .marks-room) (d + 1) c (omega arith) hc 1 (y + 1) x hx (λ p q. g (let z : y ≡ d = omega arith in z) q))
-            ∙ ap (getD-set-other k (place n (d - 1) c) (place n (y - 1) x) u 0 (places-apart n (y - 1) (d - 1) x c hx hc (λ p q. g (let z : y ≡ d = omega arith in z) q))) (λ (z : ℕ). cond (isMarked m (place n (y + 1) x)) (some z) none)
+            ∙ ap (λ (z : ℕ). cond (isMarked m (place n (y + 1) x)) (some z) none) (getD-set-other k (place n (d - 1) c) (place n (y - 1) x) u 0 (places-apart n (y - 1) (d - 1) x c hx hc (λ p q. g (let z : y ≡ d = omega arith in z) q)))
             ∙ a .remembered x y hx hy hz
 
         there : (x y : ℕ) → x < n → 0 < y → y ≤ D → (s : Bool) → eqb x c ≡ s → (t : Bool) → eqb y d ≡ t → recalled n (set k (place n (d - 1) c) u) (set m (place n (d + 1) c) 1) x y ≡ cond s (cond t (some u) (w .cache x y)) (w .cache x y)

@@ -21,8 +21,8 @@ use Rattle.plan_rules.proofs.Memory.Faithful.{Agree, zeroed-agree, Cell
 pub fresh-agree : (n depth : ℕ) → Agree n depth (replicate (countsNamed n depth) 0) (replicate (marksNamed n depth) 0) emptyMaps
 unfolding marksNamed countsNamed
 fresh-agree n depth =
-    subst (λ (k : ℕ). Agree n depth (replicate (n * (depth + 2)) 0) (replicate k 0) emptyMaps) (mul-comm depth n)
-    (subst (λ (m : ℕ). Agree n depth (replicate m 0) (replicate (depth * n) 0) emptyMaps) (mul-comm (depth + 2) n) (zeroed-agree n depth))
+    subst (λ (k : ℕ). Agree n depth (replicate k 0) (replicate (n * (depth + 2)) 0) emptyMaps) (mul-comm depth n)
+    (subst (λ (m : ℕ). Agree n depth (replicate (depth * n) 0) (replicate m 0) emptyMaps) (mul-comm (depth + 2) n) (zeroed-agree n depth))
 
 -- "Items count from 0 within their kind."
 pub cells-below : (s : List ℕ) → CellsBelow (countOf s 5) (sheetOf s)

@@ -270,7 +270,7 @@ module _ {PA PB A B : Type 0} (enterA : Step → PA → PA) (enterB : Step → P
   root-sim (suc d) ta tb h = cell-sim (suc d) ta tb (q .root) IDENTITY h
 
   totals-sim : (ta : PA) (tb : PB) → ((u : ScenePlan) → Allowed ta (totals u)) → {w : World A} {v : World B} → Related R w v → Related R (say enterA emitA ta (totals (w .state)) w) (say enterB emitB tb (totals (v .state)) v)
-  totals-sim ta tb ok (related {s} {a} {b} {m} {k} r) = say-sim ta tb (totals s) (ok s) s tt a b k m r
+  totals-sim ta tb ok (related {s} {a} {b} {k} {m} r) = say-sim ta tb (totals s) (ok s) s tt a b k m r
 
   pub plan-sim : (ta : PA) (tb : PB) → ((u : ScenePlan) → Allowed ta (totals u)) → Stands (q .depth) ta (Cell (q .root)) IDENTITY → Keeps R (plan enterA emitA S cells q ta) (plan enterB emitB S cells q tb)
   unfolding plan
