@@ -37,7 +37,7 @@ demand-3-of-rules S square true-boxes few q brought cells counts marks =
           (any-map _ (λ x k. covers S q p h (x .0) (x .1) (k .0) (k .1)) (any-all (plan-claims S cells q (brought .view) few square true-boxes (brought .depth) p h leads v shown begin) facts));
       listed = paths-all (λ (x : Path × Event). IsRecord (x .1) → ListsItsPath S q (x .0) (x .1)) tagged (all-map _ (λ x s. listed-fact S q (x .0) (x .1) s) facts);
       once = no-path-twice tagged (plan-once S cells q counts marks);
-      dropped = plan-drops-when-full S cells q marks counts;
+      dropped = plan-drops-when-full S cells q counts marks;
       skipped = paths-all (λ (x : Path × Event). IsSkip (x .1) → Skipped S q (x .0) (x .1)) tagged (all-map _ (λ x s. skipped-fact S q (x .0) (x .1) s) facts);
       limits = paths-all (λ (x : Path × Event). x .1 ≡ nodeGridLimit → MeetsLimit S q (x .0)) tagged (all-map _ (λ x s. limit-fact S q (x .0) (x .1) s) facts);
     }

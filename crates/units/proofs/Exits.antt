@@ -111,12 +111,12 @@ module _ (s : List ℕ) (cellCount depth cell : ℕ) (k m : List ℕ) where
             → m₃ ≡ set m₂ (countingPlace cellCount cell) 0
             → m₄ ≡ set m₃ (rememberedPlace cellCount depth cell) 1
             → k₄ ≡ set k₂ (countPlace cellCount depth cell) count
-            → counted count m₄ k₄ ≡ cellDrawUnits (sheetOf s) cellCount depth cell k m
+            → counted count k₄ m₄ ≡ cellDrawUnits (sheetOf s) cellCount depth cell k m
         unfolding remember cellRecordAt
         cell-counted r count m₁ m₂ m₃ m₄ k₂ k₄ closed opened read body left remembered stored =
             let whole : fold (addedAt s cellCount depth at) (cellAt s at .references) 0 (counted (cellAt s at .«direct_draw_units») k (set m (countingPlace cellCount cell) 1)) ≡ counted count k₂ m₂ =
             ap (λ (x : PreparedCell). fold (addedAt s cellCount depth at) (x .references) 0 (counted (x .«direct_draw_units») k (set m (countingPlace cellCount cell) 1))) (sym read)
-            ∙ ap (λ (x : List ℕ). fold (addedAt s cellCount depth at) (r .references) 0 (counted (r .«direct_draw_units») x k)) (sym opened)
+            ∙ ap (λ (x : List ℕ). fold (addedAt s cellCount depth at) (r .references) 0 (counted (r .«direct_draw_units») k x)) (sym opened)
             ∙ body in
             rw (remembered, left, stored)
             (sym (Paths.units-counted (sheetOf s) cellCount depth cell k m (cellRecordAt s at) (item-read cells s cell found) (ne-eqb _ _ deep) fresh closed ∙ ap (remember (sheetOf s) cellCount depth cell) whole))

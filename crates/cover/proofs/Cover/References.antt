@@ -75,7 +75,7 @@ module _ (S : Sheet) (cells : ℕ) (q : Query) (whole : WholeView (q .view)) (fe
       → (w : World Tagged) → Claimed g h (visitFoundReference enter note S cells q visit d t n p (S .reference n) w)
   unfolding visitFoundReference visitSourcedReference visitBoxedReference visitCountedReference boxed
   reference-claims visit loop w =
-      let u = referenceDrawUnits S cells d n (w .marks) (w .counts) in
+      let u = referenceDrawUnits S cells d n (w .counts) (w .marks) in
       let z = referenceScreenSize worldBox (q .zoom) (sourceIsDegenerate sb) in
       subst (λ (o : Option PreparedReference). Claimed g h (visitFoundReference enter note S cells q visit d t n p o w)) (sym e)
       (subst (λ (o : Bounds). Claimed g h (visitSourcedReference enter note S cells q visit d t n r p o w)) (sym eb)

@@ -80,7 +80,7 @@ module _ (t : ℕ) where
         after-reference-draw-units .reference-draw-units .kept .1 .1 .1 .0 ∙ after-loop .loop .inv .2,
         after-loop .loop .inv .3 ∙ fold-turn _ _ (after-loop .loop .i) _ _ (after-loop-test .loop-test .taken)
             (Exits.reference-added _ _ _ _ (after-loop .loop .i) (after-cell-reference-at .cell-reference-at .result) (after-loop .loop .count) (after-reference-draw-units .reference-draw-units .result) (c .saturating-add .result)
-            (after-loop .loop .counts) (after-loop .loop .marks) (after-reference-draw-units .reference-draw-units .last .1 .1 .1 .0) (after-reference-draw-units .reference-draw-units .last .1 .1 .0)
+            (after-loop .loop .counts) (after-loop .loop .marks) (after-reference-draw-units .reference-draw-units .last .1 .1 .0) (after-reference-draw-units .reference-draw-units .last .1 .1 .1 .0)
             (after-cell-reference-at .cell-reference-at .ensures) (after-reference-draw-units .reference-draw-units .ensures) (c .saturating-add .ensures)),
       )
 
