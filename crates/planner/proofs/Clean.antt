@@ -21,10 +21,10 @@ module _ (S : Sheet) (cells : ℕ) (q : Query) (o k m : List ℕ) where
       → k₁ ≡ replicate (length k) 0 → m₁ ≡ replicate (length m) 0 → e ≡ emptyPlan
       → (visits : world s b k₂ m₂ ≡ visitRoot noTag onTape S cells q (q .depth) tt (world e o k₁ m₁))
       → length k₂ ≡ length k → length m₂ ≡ length m → k₃ ≡ replicate (length k₂) 0 → m₃ ≡ replicate (length m₂) 0
-      → world s b m₃ k₃ ≡ swept S cells q o (length k) (length m)
+      → world s b k₃ m₃ ≡ swept S cells q o (length k) (length m)
   unfolding swept visited
   clean e s b m₁ m₂ m₃ k₁ k₂ k₃ zeroed-k zeroed-m empty visits kept-k kept-m again-k again-m =
       let end-m = zeroed-again m m₂ kept-m again-m in
       let end-k = zeroed-again k k₂ kept-k again-k in
-      let run = visits ∙ (λ i. visitRoot noTag onTape S cells q (q .depth) tt (world (empty i) o (zeroed-m i) (zeroed-k i))) in
-      λ i. world (run i .state) (run i .out) (end-m i) (end-k i)
+      let run = visits ∙ (λ i. visitRoot noTag onTape S cells q (q .depth) tt (world (empty i) o (zeroed-k i) (zeroed-m i))) in
+      λ i. world (run i .state) (run i .out) (end-k i) (end-m i)

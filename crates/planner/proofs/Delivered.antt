@@ -37,7 +37,7 @@ module _ (S : Sheet) (cells : ℕ) (q : Query) (o k m : List ℕ) where
 
   same-output : length (written S cells q o k m .out) ≡ length o
   unfolding freshPlan
-  same-output = same-output-length noTag S cells q tt o (replicate nm 0) (replicate nk 0)
+  same-output = same-output-length noTag S cells q tt o (replicate nk 0) (replicate nm 0)
 
   answered-is-written : answered ended ≡ writtenOutcome S cells q o k m
   unfolding answered writtenOutcome
@@ -48,7 +48,7 @@ module _ (S : Sheet) (cells : ℕ) (q : Query) (o k m : List ℕ) where
 
   -- `visited`: what the visits left of the plan and the output. `finished`: the contract of `finish`.
   pub call-delivered : (length o < maxTotal) → (s : ScenePlan) (b k₁ m₁ : List ℕ)
-      → (visited : world s b k₁ m₁ ≡ visitRoot noTag onTape S cells q (q .depth) tt (world emptyPlan o (replicate nm 0) (replicate nk 0)))
+      → (visited : world s b k₁ m₁ ≡ visitRoot noTag onTape S cells q (q .depth) tt (world emptyPlan o (replicate nk 0) (replicate nm 0)))
       → (a : Answer) (b₁ : List ℕ) → (finished : (k m : List ℕ) → outcome a b₁ k m ≡ answered (say noTag onTape tt (totals s) (world s b k m)))
       → outcome a b₁ (zeroed nk k) (zeroed nm m) ≡ delivered (tapeOf S cells q) nk nm o k m
   unfolding freshPlan plan say
@@ -61,7 +61,7 @@ module _ (S : Sheet) (cells : ℕ) (q : Query) (o k m : List ℕ) where
   -- The same from the sweep over just the named places, `uk` counts and `um` marks: the places behind them stay as lent.
   module _ (uk um : ℕ) (counts-used : uk ≡ nk) (marks-used : um ≡ nm) (counts-lent : uk ≤ length k) (marks-lent : um ≤ length m) where
     abbrev left : World (List ℕ)
-    left = visited S cells q o nm nk
+    left = visited S cells q o nk nm
 
     pub sweep-delivered : (length o < maxTotal) → (s : ScenePlan) (b k₁ m₁ : List ℕ)
         → (ran : world s b k₁ m₁ ≡ swept S cells q o (length (take uk k)) (length (take um m)))
@@ -71,6 +71,6 @@ module _ (S : Sheet) (cells : ℕ) (q : Query) (o k m : List ℕ) where
     sweep-delivered small s b k₁ m₁ ran a b₁ finished =
         let marks-named = length-take-le um m marks-lent ∙ marks-used in
         let counts-named = length-take-le uk k counts-lent ∙ counts-used in
-        let w : world s b k₁ m₁ ≡ swept S cells q o nm nk = ran ∙ (λ i. swept S cells q o (marks-named i) (counts-named i)) in
+        let w : world s b k₁ m₁ ≡ swept S cells q o nk nm = ran ∙ (λ i. swept S cells q o (counts-named i) (marks-named i)) in
         (λ i. outcome a b₁ (w i .counts ++ drop (counts-used i) k) (w i .marks ++ drop (marks-used i) m))
         ∙ call-delivered small s b (left .counts) (left .marks) (λ i. world (w i .state) (w i .out) (left .counts) (left .marks)) a b₁ finished

@@ -76,7 +76,7 @@ module _ (s : List ℕ) (cellCount : ℕ) (q : Query) (depth : ℕ) where
             → m′ ≡ set m (openPlace cellCount cell) 0
             → world plan o k m′ ≡ visited
         cell-visited h references w₂ plan o k m m′ listed ended closed =
-            ap (λ (x : List ℕ). world plan o x k) closed
+            ap (λ (x : List ℕ). world plan o k x) closed
             ∙ ap (setMark (openPlace cellCount cell) 0) (sym ended ∙ listed)
             ∙ sym (ap (λ (b : Bool). cond b (setMark (openPlace cellCount cell) 0 body) w₁) (not-false goes h))
             ∙ found-visited

@@ -66,7 +66,7 @@ entered c =
     (sym (at-full .detail-cells-full .ensures) ∙ else2 .if2 .left)
     (sym (at-exhausted .detail-budget-exhausted .ensures (a .query) hidden) ∙ else3 .if3 .left)
     (sym (at-contains .stack-contains .ensures) ∙ else4 .if4 .left) _
-    (c .count-detail-cell .ensures _ _ k ∙ ap (λ (m : List ℕ). say noTag onTape tt detailCell (world (a .plan) (now (a .out)) k m)) (at-insert .stack-insert .ensures))
+    (c .count-detail-cell .ensures _ k _ ∙ ap (λ (m : List ℕ). say noTag onTape tt detailCell (world (a .plan) (now (a .out)) k m)) (at-insert .stack-insert .ensures))
 
 pub enter-cell-spec : {M : Type 1} → statement M
 enter-cell-spec =

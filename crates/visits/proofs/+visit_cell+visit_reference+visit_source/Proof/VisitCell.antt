@@ -45,7 +45,7 @@ module _ (t : ℕ) where
       Cells.cell-not-entered (start .args .sheet .now) (start .args .cells) (queryOf (start .args .query) (start .args .hidden .now) (start .args .object-limit)) (start .args .depth) (start .args .cell) (start .args .transform)
       (world (start .args .plan) (start .args .out .now) (start .args .counts .now) (start .args .marks .now))
       (after-at .at .given .0 .0) (sym (after-find .find .ensures) ∙ after-at .at .given .1) (after-enter-cell .enter-cell .result .goes) (after-enter-cell .enter-cell .result .bounds)
-      (world (after-enter-cell .enter-cell .result .plan) (after-enter-cell .enter-cell .last .1 .1 .1 .1 .0) (after-enter-cell .enter-cell .last .1 .1 .1 .1 .1 .0) (start .args .counts .now))
+      (world (after-enter-cell .enter-cell .result .plan) (after-enter-cell .enter-cell .last .1 .1 .1 .1 .0) (start .args .counts .now) (after-enter-cell .enter-cell .last .1 .1 .1 .1 .1 .0))
       (after-enter-cell .enter-cell .ensures (sheetOf (start .args .sheet .now)) (start .args .hidden .now) (visitReference noTag onTape (sheetOf (start .args .sheet .now)) (start .args .cells) (queryOf (start .args .query) (start .args .hidden .now) (start .args .object-limit)) (start .args .depth)) (start .args .counts .now))
       (c .if1 .taken)
 
@@ -78,7 +78,7 @@ module _ (t : ℕ) where
         after-visit-reference .visit-reference .kept .1 .1 .1 .1 .1 .1 .1 .0 ∙ after-loop .loop .inv .3,
         after-loop .loop .inv .4 ∙ each-go _ _ (after-loop .loop .i) _ _ (after-loop-test .loop-test .taken)
             (Cells.turn-goes _ _ _ _ _ _ _ _ (after-loop .loop .i) (world (after-loop .loop .next) (after-loop .loop .out) (after-loop .loop .counts) (after-loop .loop .marks))
-            (world (after-visit-reference .visit-reference .result) (after-visit-reference .visit-reference .last .1 .1 .1 .1 .1 .0) (after-visit-reference .visit-reference .last .1 .1 .1 .1 .1 .1 .1 .0) (after-visit-reference .visit-reference .last .1 .1 .1 .1 .1 .1 .0))
+            (world (after-visit-reference .visit-reference .result) (after-visit-reference .visit-reference .last .1 .1 .1 .1 .1 .0) (after-visit-reference .visit-reference .last .1 .1 .1 .1 .1 .1 .0) (after-visit-reference .visit-reference .last .1 .1 .1 .1 .1 .1 .1 .0))
             (after-cell-reference-at .cell-reference-at .result)
             (sym (after-detail-budget-exhausted .detail-budget-exhausted .ensures (start .args .query) (start .args .hidden .now)) ∙ after-if2 .if2 .left)
             (after-cell-reference-at .cell-reference-at .ensures) (after-visit-reference .visit-reference .ensures)),
@@ -131,7 +131,7 @@ module _ (t : ℕ) where
       let after-loop = after-loop-test .before in
       let start = after-loop .before .before .before .before .before .before .before .before .before .before .before .before .before .before .before .before .before .before .before .before .before .before .before .before .before in
       let boxed = world (after-add-load-if-boxed .add-load-if-boxed .result) (after-add-load-if-boxed .add-load-if-boxed .last .0) (after-loop .loop .counts) (after-loop .loop .marks) in
-      closed after-loop (boxed .state) (boxed .out) (after-loop .loop .marks) (after-stack-remove .stack-remove .last .0) (after-loop .loop .counts)
+      closed after-loop (boxed .state) (boxed .out) (after-loop .loop .counts) (after-loop .loop .marks) (after-stack-remove .stack-remove .last .0)
       (ap ending (each-halt _ _ (after-loop .loop .i) _ boxed (after-loop-test .loop-test .taken)
       (Cells.turn-exhausted _ _ _ _ _ _ _ _ (after-loop .loop .i) (world (after-loop .loop .next) (after-loop .loop .out) (after-loop .loop .counts) (after-loop .loop .marks)) boxed
       (sym (after-detail-budget-exhausted .detail-budget-exhausted .ensures (start .args .query) (start .args .hidden .now)) ∙ after-if2 .if2 .taken)
@@ -143,6 +143,6 @@ module _ (t : ℕ) where
       let after-stack-remove2 = c .before .before in
       let after-loop-test = after-stack-remove2 .before .before in
       let after-loop = after-loop-test .before in
-      closed after-loop (after-loop .loop .next) (after-loop .loop .out) (after-loop .loop .marks) (after-stack-remove2 .stack-remove2 .last .0) (after-loop .loop .counts)
+      closed after-loop (after-loop .loop .next) (after-loop .loop .out) (after-loop .loop .counts) (after-loop .loop .marks) (after-stack-remove2 .stack-remove2 .last .0)
       (ap ending (each-done _ _ (after-loop .loop .i) _ (after-loop-test .loop-test .left)))
       (after-stack-remove2 .stack-remove2 .ensures)

@@ -94,9 +94,9 @@ module _ (t : ℕ) where
       let start = after-reference-at .before .before .before .before .before .before .before .before .before .before in
       let a = start .args in
       References.collapsed (a .sheet .now) (a .cells) (a .query) (a .hidden .now) (a .object-limit) (a .depth) (after-reference-at .reference-at .result) (a .transform) (after-open-reference .open-reference .result .«source_bbox») (after-open-reference .open-reference .result .«world_bbox»)
-      (reached after-open-reference) (referenceDrawUnits (sheetOf (a .sheet .now)) (a .cells) (a .depth) (a .number) (a .counts .now) (a .marks .now)) (after-reference-draw-units .reference-draw-units .result) (after-grid-count .grid-count .result) (after-reference-draw-units .reference-draw-units .last .1 .1 .1 .0) (after-reference-draw-units .reference-draw-units .last .1 .1 .0)
+      (reached after-open-reference) (referenceDrawUnits (sheetOf (a .sheet .now)) (a .cells) (a .depth) (a .number) (a .counts .now) (a .marks .now)) (after-reference-draw-units .reference-draw-units .result) (after-grid-count .grid-count .result) (after-reference-draw-units .reference-draw-units .last .1 .1 .0) (after-reference-draw-units .reference-draw-units .last .1 .1 .1 .0)
       (after-reference-draw-units .reference-draw-units .ensures) (after-grid-count .grid-count .ensures) (after-collapses .collapses .result) (after-collapses .collapses .ensures)
-      (after-if2 .if2 .taken) (after-label .label .result) (after-label .label .ensures) _ (after-add-load .add-load .ensures (after-reference-draw-units .reference-draw-units .last .1 .1 .1 .0) (after-reference-draw-units .reference-draw-units .last .1 .1 .0))
+      (after-if2 .if2 .taken) (after-label .label .result) (after-label .label .ensures) _ (after-add-load .add-load .ensures (after-reference-draw-units .reference-draw-units .last .1 .1 .0) (after-reference-draw-units .reference-draw-units .last .1 .1 .1 .0))
       ∙ References.units-left (after-open-reference .open-reference .result .goes) (rest after-open-reference) (reached after-open-reference) (visit after-open-reference) (opened after-open-reference) (not-false _ (after-if1 .if1 .left))
 
   -- ---- at the loop's head
@@ -161,7 +161,7 @@ module _ (t : ℕ) where
       let a = start .args in
       ap ending (sym (c .loop .inv .5))
       ∙ References.expanded (a .sheet .now) (a .cells) (a .query) (a .hidden .now) (a .object-limit) (a .depth) (after-reference-at .reference-at .result) (a .transform) (after-open-reference .open-reference .result .«source_bbox») (after-open-reference .open-reference .result .«world_bbox»)
-      (reached after-open-reference) (referenceDrawUnits (sheetOf (a .sheet .now)) (a .cells) (a .depth) (a .number) (a .counts .now) (a .marks .now)) (after-reference-draw-units .reference-draw-units .result) (after-grid-count .grid-count .result) (after-reference-draw-units .reference-draw-units .last .1 .1 .1 .0) (after-reference-draw-units .reference-draw-units .last .1 .1 .0)
+      (reached after-open-reference) (referenceDrawUnits (sheetOf (a .sheet .now)) (a .cells) (a .depth) (a .number) (a .counts .now) (a .marks .now)) (after-reference-draw-units .reference-draw-units .result) (after-grid-count .grid-count .result) (after-reference-draw-units .reference-draw-units .last .1 .1 .0) (after-reference-draw-units .reference-draw-units .last .1 .1 .1 .0)
       (after-reference-draw-units .reference-draw-units .ensures) (after-grid-count .grid-count .ensures) (after-collapses .collapses .result) (after-collapses .collapses .ensures)
       (after-if2 .if2 .left) (after-source-units .source-units .result) (after-source-units .source-units .ensures)
       ∙ References.units-left (after-open-reference .open-reference .result .goes) (rest after-open-reference) (reached after-open-reference) (visit after-open-reference) (opened after-open-reference) (not-false _ (after-if1 .if1 .left))
@@ -248,8 +248,8 @@ module _ (t : ℕ) where
       let after-try-member = after-if3 .before .before .before .before in
       halts after-try-member _
       (References.source-halted (after-try-member .try-member .result .opens) (after-try-member .try-member .result .whole) _ (after-try-member .try-member .result .bbox) (passed after-try-member) (visited after-try-member) _ (tried after-try-member)
-      (after-if3 .if3 .taken) (after-visit-source .visit-source .result .whole) (world (after-visit-source .visit-source .result .plan) (after-visit-source .visit-source .last .1 .1 .1 .1 .1 .0) (after-visit-source .visit-source .last .1 .1 .1 .1 .1 .1 .1 .0) (after-visit-source .visit-source .last .1 .1 .1 .1 .1 .1 .0)) (after-visit-source .visit-source .ensures) (not-true _ (after-if4 .if4 .taken))
-      (after-label2 .label2 .result) (after-label2 .label2 .ensures) _ (after-add-load2 .add-load2 .ensures (after-visit-source .visit-source .last .1 .1 .1 .1 .1 .1 .1 .0) (after-visit-source .visit-source .last .1 .1 .1 .1 .1 .1 .0)))
+      (after-if3 .if3 .taken) (after-visit-source .visit-source .result .whole) (world (after-visit-source .visit-source .result .plan) (after-visit-source .visit-source .last .1 .1 .1 .1 .1 .0) (after-visit-source .visit-source .last .1 .1 .1 .1 .1 .1 .0) (after-visit-source .visit-source .last .1 .1 .1 .1 .1 .1 .1 .0)) (after-visit-source .visit-source .ensures) (not-true _ (after-if4 .if4 .taken))
+      (after-label2 .label2 .result) (after-label2 .label2 .ensures) _ (after-add-load2 .add-load2 .ensures (after-visit-source .visit-source .last .1 .1 .1 .1 .1 .1 .0) (after-visit-source .visit-source .last .1 .1 .1 .1 .1 .1 .1 .0)))
 
   pub source-halts-out : lts.Need-same-length-5 (visit-reference-claims t) (visit-reference-at t) visit-reference.Post Inv-loop μ-loop
   source-halts-out c =
@@ -312,7 +312,7 @@ module _ (t : ℕ) where
         after-loop .loop .inv .5
             ∙ goes-on after-try-member _
             (References.source-passed (after-try-member .try-member .result .opens) (after-try-member .try-member .result .whole) _ (after-try-member .try-member .result .bbox) (passed after-try-member) (visited after-try-member) _ (tried after-try-member)
-            (w .0 .taken) (w .4 .result .whole) (world (w .4 .result .plan) (w .4 .last .1 .1 .1 .1 .1 .0) (w .4 .last .1 .1 .1 .1 .1 .1 .1 .0) (w .4 .last .1 .1 .1 .1 .1 .1 .0)) (w .4 .ensures) (not-false _ (w .13 .left)) _ (λ j. world (w .17 j) (w .14 j) (w .16 j) (w .15 j))),
+            (w .0 .taken) (w .4 .result .whole) (world (w .4 .result .plan) (w .4 .last .1 .1 .1 .1 .1 .0) (w .4 .last .1 .1 .1 .1 .1 .1 .0) (w .4 .last .1 .1 .1 .1 .1 .1 .1 .0)) (w .4 .ensures) (not-false _ (w .13 .left)) _ (λ j. world (w .17 j) (w .14 j) (w .15 j) (w .16 j))),
       ))
       (λ w. (
         omega (arith, after-loop-test .loop-test .taken),
@@ -322,6 +322,6 @@ module _ (t : ℕ) where
         ap length (w .5) ∙ after-loop .loop .inv .4,
         after-loop .loop .inv .5
             ∙ goes-on after-try-member _
-            (References.member-passed (after-try-member .try-member .result .opens) (after-try-member .try-member .result .whole) _ (after-try-member .try-member .result .bbox) (passed after-try-member) (visited after-try-member) _ (tried after-try-member) (w .0 .left) (not-false _ (w .2 .left)) _ (λ j. world (w .6 j) (w .3 j) (w .5 j) (w .4 j))),
+            (References.member-passed (after-try-member .try-member .result .opens) (after-try-member .try-member .result .whole) _ (after-try-member .try-member .result .bbox) (passed after-try-member) (visited after-try-member) _ (tried after-try-member) (w .0 .left) (not-false _ (w .2 .left)) _ (λ j. world (w .6 j) (w .3 j) (w .4 j) (w .5 j))),
       ))
       (c .if3 .came)
