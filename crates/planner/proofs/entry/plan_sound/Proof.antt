@@ -79,7 +79,7 @@ planned c =
     let zoom = sym (at-if2 .before .zoom-ok .ensures) ∙ not-false _ (at-if2 .if2 .left) in
     let counts = counts-lent _ _ _ _ _ (at-has-scratch .has-scratch .ensures) (at-if4 .if4 .left) (at-counts-named .counts-named .ensures) in
     let marks = marks-lent _ _ _ _ _ (at-has-scratch .has-scratch .ensures) (at-if4 .if4 .left) (at-marks-named .marks-named .ensures) in
-    sweep-delivered _ _ _ _ _ _ _ _ (at-counts-named .counts-named .ensures) counts (at-marks-named .marks-named .ensures) marks
+    sweep-delivered _ _ _ _ _ _ _ _ (at-counts-named .counts-named .ensures) (at-marks-named .marks-named .ensures) counts marks
     (omega (arith, start .good)) _ _ _ _ (at-visit-clean .visit-clean .ensures) (at-finish .finish .result) _ (at-finish .finish .ensures)
     ∙ scratch-lent _ _ _ _ _ _ view zoom (omega (arith, at-if3 .if3 .left)) _ (at-has-scratch .has-scratch .ensures) (at-if4 .if4 .left)
 
