@@ -1,10 +1,10 @@
 #!/usr/bin/env python3
-"""seeds.py FOLDER: writes the inputs of oracle/stored/cases.bin into a folder, a file each."""
+"""seeds.py FOLDER: writes the inputs of crates/plan_vectors/stdin into a folder, a file each."""
 import pathlib
 import struct
 import sys
 
-data = (pathlib.Path(__file__).resolve().parent.parent / 'oracle/stored/cases.bin').read_bytes()
+data = (pathlib.Path(__file__).resolve().parent.parent / 'crates/plan_vectors/stdin').read_bytes()
 folder = pathlib.Path(sys.argv[1])
 folder.mkdir(parents=True, exist_ok=True)
 at = count = 0

@@ -62,7 +62,7 @@ fn link_library(package: &Path) {
     let folder = env::var("RIBALTZEN_LIBRARY")
         .map_or_else(|_| package.join("../target/staticlib"), PathBuf::from);
     println!("cargo::rustc-link-search=native={}", folder.display());
-    for name in ["planner_c", "sheet_c"] {
+    for name in ["planner_c", "check_sheet_c"] {
         println!("cargo::rerun-if-changed={}", folder.join(format!("lib{name}.a")).display());
         println!("cargo::rustc-link-lib=static={name}");
     }

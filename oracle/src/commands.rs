@@ -90,7 +90,7 @@ pub fn gaps(folder: &Path, tally: &Tally) -> Vec<&'static str> {
     coverage.gaps()
 }
 
-/// Writes fresh cases as in cases.bin, each before with its family and seed for the comparison's report.
+/// Writes fresh cases as they are stored, each before with its family and seed for the comparison's report.
 pub fn write_cases(seed: u64, each: u64, out: &mut impl Write) {
     for family in FAMILIES {
         for seed in seed..seed + each {

@@ -1,4 +1,4 @@
-//! The static library of the Rattle planner as a subject: `scene_plan` of crates/planner_c, `sheet_check` of crates/sheet_c.
+//! The static library of the Rattle planner as a subject: `scene_plan` of crates/planner_c, `sheet_check` of crates/check_sheet_c.
 
 use crate::answer::Answer;
 use crate::harness::Subject;

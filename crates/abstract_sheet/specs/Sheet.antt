@@ -14,6 +14,7 @@ use Rattle.records.specs.declared.PreparedText.{PreparedText}
 use Rattle.records.specs.declared.PreparedSource.{PreparedSource}
 use Rattle.records.specs.declared.PreparedSource.the-variants.{Geometry, Text, Node, Reference, Cell}
 use Rattle.records.specs.declared.PreparedReference.{PreparedReference}
+use Rattle.records.specs.declared.PreparedCell.{PreparedCell}
 use Rattle.records.specs.Records.{geometryAt, textAt, nodeAt, nodePointAt, referenceAt, cellAt, cellGeometryAt, cellTextAt, cellNodeAt, cellReferenceAt}
 
 -- ---- What a sheet holds
@@ -59,32 +60,41 @@ nodeRecordAt s at =
       point = nodePointAt s at;
     }
 
-unfoldable pub cellRecordAt : List ℕ → ℕ → CellRecord
-cellRecordAt s at =
+-- (with what the record says beside its lists)
+abbrev pub cellRecordWith : List ℕ → ℕ → PreparedCell → CellRecord
+cellRecordWith s at c =
     record {
-      «direct_draw_units» = cellAt s at .«direct_draw_units»;
-      bbox = cellAt s at .bbox;
-      geometries = record { count = cellAt s at .geometries; at = cellGeometryAt s at };
-      texts = record { count = cellAt s at .texts; at = cellTextAt s at };
-      nodes = record { count = cellAt s at .nodes; at = cellNodeAt s at };
-      references = record { count = cellAt s at .references; at = cellReferenceAt s at };
+      «direct_draw_units» = c .«direct_draw_units»;
+      bbox = c .bbox;
+      geometries = record { count = c .geometries; at = cellGeometryAt s at };
+      texts = record { count = c .texts; at = cellTextAt s at };
+      nodes = record { count = c .nodes; at = cellNodeAt s at };
+      references = record { count = c .references; at = cellReferenceAt s at };
     }
+
+unfoldable pub cellRecordAt : List ℕ → ℕ → CellRecord
+cellRecordAt s at = cellRecordWith s at (cellAt s at)
 
 -- what stands where a look-up found something
 abbrev pub read : {A : Type 0} → (ℕ → A) → Found → Option A
 read f (At at) = some (f at)
 read f Nothing = none
 
+-- The sheet as a look-up gives it: `look kind n` says where the record of a kind with a number is.
 -- "1 batch", "2 text", "3 node", "4 reference", "5 cell"
-unfoldable pub sheetOf : List ℕ → Sheet
-sheetOf s =
+unfoldable pub sheetBy : (ℕ → ℕ → Found) → List ℕ → Sheet
+sheetBy look s =
     record {
-      geometry = λ n. read (geometryAt s) (find s 1 n);
-      text = λ n. read (textAt s) (find s 2 n);
-      node = λ n. read (nodeRecordAt s) (find s 3 n);
-      reference = λ n. read (referenceAt s) (find s 4 n);
-      cell = λ n. read (cellRecordAt s) (find s 5 n);
+      geometry = λ n. read (geometryAt s) (look 1 n);
+      text = λ n. read (textAt s) (look 2 n);
+      node = λ n. read (nodeRecordAt s) (look 3 n);
+      reference = λ n. read (referenceAt s) (look 4 n);
+      cell = λ n. read (cellRecordAt s) (look 5 n);
     }
+
+-- the sheet itself: what the walk finds
+unfoldable pub sheetOf : List ℕ → Sheet
+sheetOf s = sheetBy (find s) s
 
 -- ---- The same by kind, so that one law serves all five
 

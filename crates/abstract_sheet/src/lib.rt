@@ -1,2 +1,2 @@
 // The abstract sheet: specs only. `specs/Sheet.antt` turns the bytes of a sheet into the records that document 01 speaks of,
-// each looked up by its number.
+// each where a look-up finds its number.

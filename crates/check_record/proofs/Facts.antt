@@ -1,6 +1,6 @@
 -- What each question gives a reader of the record.
 --     Lengths    from question 3: a record's length by its kind
---     Numbers    from question 4: columns, rows, flags, sources, absent boxes
+--     Numbers    from question 4: a reference's columns, rows, flags, source and absent box
 --     Finite     from question 5: a float by its pattern, and each float of a record
 -- Assumes nothing.
 pub mod Lengths

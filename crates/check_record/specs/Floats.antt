@@ -7,20 +7,26 @@ use lib.Dec.{eqb}
 use Rattle.floats.specs.Order.{isFinite}
 use Rattle.fields.specs.Field.{f64At}
 use Rattle.walk.specs.Offsets.{lengthAt, kindAt}
+use Rattle.records.specs.Format as field
+use Rattle.records.specs.Format.{f, geometry, node, reference, cell, offsetIn, endOf}
 use Rattle.check_record.specs.Tests.{every}
 
 -- the float at an offset is finite
 unfoldable pub finiteAt : List ℕ → ℕ → Bool
 finiteAt s at = isFinite (f64At s at)
 
--- How far into a record of a kind its floats begin: a batch's box, a reference's origin, a cell's box, a text's origin or a node's points.
--- They stand side by side in every kind.
+-- How far into a record of a kind its floats begin: a batch's box, a reference's origin, a cell's box, a node's points; a text's origin stands where a
+-- node's points do. They stand side by side in every kind.
 unfoldable pub floatsFrom : ℕ → ℕ
-floatsFrom kind = cond (eqb kind 1) 14 (cond (eqb kind 4) 18 (cond (eqb kind 5) 16 10))
+floatsFrom kind =
+    cond (eqb kind 1) (offsetIn geometry field.box)
+    (cond (eqb kind 4) (offsetIn reference field.origin)
+    (cond (eqb kind 5) (offsetIn cell field.box)
+    (endOf node)))
 
 -- how many there are: a batch's box, a text's origin, a node's points, what a reference has from its origin to its source box, a cell's box
 unfoldable pub floatsCount : ℕ → ℕ → ℕ
-floatsCount kind n = cond (eqb kind 1) 4 (cond (eqb kind 2) 2 (cond (eqb kind 3) ((n - 10) / 8) (cond (eqb kind 4) 13 4)))
+floatsCount kind n = cond (eqb kind 1) 4 (cond (eqb kind 2) 2 (cond (eqb kind 3) ((n - endOf node) / f) (cond (eqb kind 4) 13 4)))
 
 unfoldable pub floatsOk : List ℕ → ℕ → Bool
 floatsOk s at = every (finiteAt s) 8 (floatsCount (kindAt s at) (lengthAt s at)) (at + floatsFrom (kindAt s at))

@@ -1,5 +1,5 @@
 -- The number of the first no that document 01's questions 2 to 5 give a record, and what a record is that has none.
--- Definitions only.
+-- Definitions only. Assumes nothing.
 use mathlib.Core.Path.{_≡_}
 use Prim.Native.Nat.{ℕ}
 use mathlib.Core.List.{List}

@@ -4,23 +4,25 @@ use Prim.Native.Nat.{ℕ, _+_, _-_, _*_, _%_}
 use mathlib.Core.List.{List}
 use mathlib.Core.Bool.{Bool, false, cond}
 use lib.Dec.{leb, eqb}
-use Rattle.fields.specs.Field.{uintAt}
 use Rattle.walk.specs.Offsets.{lengthAt, kindAt}
+use Rattle.records.specs.Format as field
+use Rattle.records.specs.Format.{f, geometry, text, node, reference, cell, endOf, fieldAt}
 use Rattle.check_record.specs.Tests.{both}
 
 -- a cell's "counts of batches, texts, nodes, references 2 each", together
 unfoldable pub listsAt : List ℕ → ℕ → ℕ
-listsAt s at = uintAt 2 s (at + 48) + uintAt 2 s (at + 50) + uintAt 2 s (at + 52) + uintAt 2 s (at + 54)
+listsAt s at =
+    fieldAt cell field.geometryCount s at + fieldAt cell field.textCount s at + fieldAt cell field.nodeCount s at + fieldAt cell field.referenceCount s at
 
 -- The column "length" of the table, for a record of a kind whose length its own body does not decide: a batch's 46,
 -- a text's 26 + n with "0 to 512 value bytes", a node's 10 + 16n with "1 to 50 points", a reference's 122. No other kind is right.
 unfoldable pub lengthOk : ℕ → ℕ → Bool
 lengthOk kind n =
-    cond (eqb kind 1) (eqb n 46)
-    (cond (eqb kind 2) (both (leb 26 n) (leb n (26 + 512)))
-    (cond (eqb kind 3) (both (leb (10 + 16 * 1) n) (both (leb n (10 + 16 * 50)) (eqb ((n - 10) % 16) 0)))
-    (cond (eqb kind 4) (eqb n 122) false)))
+    cond (eqb kind 1) (eqb n (endOf geometry))
+    (cond (eqb kind 2) (both (leb (endOf text) n) (leb n (endOf text + 512)))
+    (cond (eqb kind 3) (both (leb (endOf node + 2 * f * 1) n) (both (leb n (endOf node + 2 * f * 50)) (eqb ((n - endOf node) % (2 * f)) 0)))
+    (cond (eqb kind 4) (eqb n (endOf reference)) false)))
 
 -- with a cell's 56 + 4n
 unfoldable pub shapeOk : List ℕ → ℕ → Bool
-shapeOk s at = cond (eqb (kindAt s at) 5) (eqb (lengthAt s at) (56 + 4 * listsAt s at)) (lengthOk (kindAt s at) (lengthAt s at))
+shapeOk s at = cond (eqb (kindAt s at) 5) (eqb (lengthAt s at) (endOf cell + 4 * listsAt s at)) (lengthOk (kindAt s at) (lengthAt s at))

@@ -1,5 +1,5 @@
--- Two tests in turn, and one test at each of several places, with the facts by which the code's tests are theirs.
--- Definitions only.
+-- Two tests in turn, and one test at each of several places.
+-- Definitions only. Assumes nothing.
 use Prim.Native.Nat.{ℕ, zero, suc, _+_}
 use mathlib.Core.Bool.{Bool, true, false}
 

@@ -7,6 +7,8 @@ use mathlib.Core.Bool.{Bool, true, cond}
 use lib.Dec.{ltb, leb, eqb}
 use Rattle.fields.specs.Field.{uintAt}
 use Rattle.walk.specs.Offsets.{kindAt}
+use Rattle.records.specs.Format as field
+use Rattle.records.specs.Format.{reference, cell, offsetIn, fieldAt}
 use Rattle.check_record.specs.Tests.{both}
 
 -- "An absent box is 32 zero bytes."
@@ -27,13 +29,15 @@ gridOk columns rows flags source zeros =
 
 unfoldable pub referenceOk : List ℕ → ℕ → Bool
 referenceOk s at =
-    gridOk (uintAt 2 s (at + 6)) (uintAt 2 s (at + 8)) (uintAt 2 s (at + 10))
-    (sourceOk (uintAt 2 s (at + 12)) (uintAt 4 s (at + 14)))
-    (zeroBox s (at + 90))
+    gridOk (fieldAt reference field.columns s at) (fieldAt reference field.rows s at) (fieldAt reference field.flags s at)
+    (sourceOk (fieldAt reference field.sourceKind s at) (fieldAt reference field.sourceNumber s at))
+    (zeroBox s (at + offsetIn reference field.box))
 
 -- "Cell flags: bit 0 box present."
 unfoldable pub cellOk : List ℕ → ℕ → Bool
-cellOk s at = both (ltb (uintAt 2 s (at + 6)) 2) (cond (eqb (uintAt 2 s (at + 6)) 1) true (zeroBox s (at + 16)))
+cellOk s at =
+    both (ltb (fieldAt cell field.flags s at) 2)
+    (cond (eqb (fieldAt cell field.flags s at) 1) true (zeroBox s (at + offsetIn cell field.box)))
 
 unfoldable pub valuesOk : List ℕ → ℕ → Bool
 valuesOk s at = cond (eqb (kindAt s at) 4) (referenceOk s at) (cond (eqb (kindAt s at) 5) (cellOk s at) true)

@@ -6,9 +6,15 @@ ghost use lib.ListN.{length};
 ghost use lib.Ieee.{binary64, ofBits};
 ghost use Rattle.floats.specs.Order.{isFinite};
 ghost use Rattle.walk.specs.Offsets.{Whole};
+ghost use Rattle.records.specs.Format.{node, endOf};
 ghost use Rattle.check_record.specs.Tests.{every};
 ghost use Rattle.check_record.specs.Shape.{shapeOk};
 ghost use Rattle.check_record.specs.Floats.{finiteAt, floatsFrom, floatsCount, floatsOk};
+use records::format::CELL_BOX;
+use records::format::GEOMETRY_BOX;
+use records::format::NODE_END;
+use records::format::REFERENCE_ORIGIN;
+use walk::KIND;
 
 // Whether a pattern is that of a finite float: its exponent field is not all ones.
 pub fn finite_bits(n: u64) -> bool
@@ -39,21 +45,21 @@ pub fn floats_from(kind: u16) -> usize
     ensures { λ r. ⌜ r ≡ floatsFrom kind ⌝ }
 {
     match kind {
-        1 => 14,
-        4 => 18,
-        5 => 16,
-        _ => 10,
+        1 => GEOMETRY_BOX,
+        4 => REFERENCE_ORIGIN,
+        5 => CELL_BOX,
+        _ => NODE_END,
     }
 }
 
 pub fn floats_count(kind: u16, n: usize) -> usize
-    requires { ⌜ 10 ≤ n ⌝ }
+    requires { ⌜ endOf node ≤ n ⌝ }
     ensures { λ r. ⌜ r ≡ floatsCount kind n ⌝ }
 {
     match kind {
         1 => 4,
         2 => 2,
-        3 => (n - 10) / 8,
+        3 => (n - NODE_END) / 8,
         4 => 13,
         _ => 4,
     }
@@ -65,7 +71,7 @@ pub fn floats_ok(s: &[u8], at: usize) -> bool
     requires { ⌜ shapeOk (now s) at ≡ true ⌝ }
     ensures { λ r. ⌜ r ≡ floatsOk (now (s .entry)) at ⌝ }
 {
-    let kind = fields::u16_within(s, at + 4);
+    let kind = fields::u16_within(s, at + KIND);
     let n = fields::u32_within(s, at) as usize;
     all_finite(s, at + floats_from(kind), floats_count(kind, n))
 }

@@ -3,35 +3,58 @@ ghost use mathlib.Core.Path.{_≡_};
 ghost use Prim.Native.Nat.{_+_, _≤_};
 ghost use lib.ListN.{length};
 ghost use Rattle.walk.specs.Offsets.{Whole};
+ghost use Rattle.records.specs.Format.{cell, endOf};
 ghost use Rattle.check_record.specs.Shape.{listsAt, lengthOk, shapeOk};
+use records::format::CELL_END;
+use records::format::GEOMETRY_COUNT;
+use records::format::GEOMETRY_END;
+use records::format::NODE_COUNT;
+use records::format::NODE_END;
+use records::format::POINT;
+use records::format::REFERENCE_COUNT;
+use records::format::REFERENCE_END;
+use records::format::TEXT_COUNT;
+use records::format::TEXT_END;
+use walk::KIND;
 
 // How many numbers a cell's four lists have together.
 pub fn lists_at(s: &[u8], at: usize) -> u32
-    requires { ⌜ at + 56 ≤ length (now s) ⌝ }
+    requires { ⌜ at + endOf cell ≤ length (now s) ⌝ }
     ensures { λ r. ⌜ r ≡ listsAt (now (s .entry)) at ⌝ }
 {
-    let geometries = fields::u16_within(s, at + 48) as u32;
-    let texts = fields::u16_within(s, at + 50) as u32;
-    let nodes = fields::u16_within(s, at + 52) as u32;
-    let references = fields::u16_within(s, at + 54) as u32;
+    let geometries = fields::u16_within(s, at + GEOMETRY_COUNT) as u32;
+    let texts = fields::u16_within(s, at + TEXT_COUNT) as u32;
+    let nodes = fields::u16_within(s, at + NODE_COUNT) as u32;
+    let references = fields::u16_within(s, at + REFERENCE_COUNT) as u32;
     geometries + texts + nodes + references
 }
 
+// "0 to 512 value bytes", "1 to 50 points"
+const TEXT_MOST: usize = TEXT_END + 512;
+
+const NODE_LEAST: usize = NODE_END + POINT;
+
+const NODE_MOST: usize = NODE_END + 50 * POINT;
+
 // Whether the length n is right for a kind other than a cell's.
-pub fn length_ok(kind: u16, n: u32) -> bool
+pub fn length_ok(kind: u16, n: usize) -> bool
     ensures { λ r. ⌜ r ≡ lengthOk kind n ⌝ }
 {
     match kind {
-        1 => n == 46,
-        2 => { if 26 <= n { n <= 538 } else { false } }
+        1 => n == GEOMETRY_END,
+        2 => { if TEXT_END <= n { n <= TEXT_MOST } else { false } }
         3 => {
-            if 26 <= n {
-                if n <= 810 { (n - 10) % 16 == 0 } else { false }
+            if NODE_LEAST <= n {
+                if n <= NODE_MOST {
+                    (n - NODE_END) % POINT == 0
+                } else {
+                    false
+                }
             } else {
                 false
             }
         }
-        4 => n == 122,
+        4 => n == REFERENCE_END,
         _ => false,
     }
 }
@@ -41,14 +64,14 @@ pub fn shape_ok(s: &[u8], at: usize) -> bool
     requires { ⌜ Whole (now s) at ⌝ }
     ensures { λ r. ⌜ r ≡ shapeOk (now (s .entry)) at ⌝ }
 {
-    let kind = fields::u16_within(s, at + 4);
-    let n = fields::u32_within(s, at);
+    let kind = fields::u16_within(s, at + KIND);
+    let n = fields::u32_within(s, at) as usize;
     if kind == 5 {
-        if n < 56 {
+        if n < CELL_END {
             return false;
         }
-        let numbers = lists_at(s, at) as u64;
-        (n as u64) == 56 + 4 * numbers
+        let numbers = lists_at(s, at) as usize;
+        n == CELL_END + 4 * numbers
     } else {
         length_ok(kind, n)
     }

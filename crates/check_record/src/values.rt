@@ -4,8 +4,18 @@ ghost use mathlib.Core.Bool.{true};
 ghost use Prim.Native.Nat.{_+_, _≤_};
 ghost use lib.ListN.{length};
 ghost use Rattle.walk.specs.Offsets.{Whole};
+ghost use Rattle.records.specs.Format.{reference, cell, endOf};
 ghost use Rattle.check_record.specs.Shape.{shapeOk};
 ghost use Rattle.check_record.specs.Values.{zeroBox, sourceOk, gridOk, referenceOk, cellOk, valuesOk};
+use records::format::CELL_BOX;
+use records::format::CELL_FLAGS;
+use records::format::COLUMNS;
+use records::format::REFERENCE_FLAGS;
+use records::format::ROWS;
+use records::format::SOURCE_BOX;
+use records::format::SOURCE_KIND;
+use records::format::SOURCE_NUMBER;
+use walk::KIND;
 
 // "An absent box is 32 zero bytes."
 pub fn zero_box(s: &[u8], at: usize) -> bool
@@ -62,32 +72,32 @@ pub fn grid_ok(columns: u16, rows: u16, flags: u16, source: bool, zeros: bool) -
 }
 
 pub fn reference_ok(s: &[u8], at: usize) -> bool
-    requires { ⌜ at + 122 ≤ length (now s) ⌝ }
+    requires { ⌜ at + endOf reference ≤ length (now s) ⌝ }
     ensures { λ r. ⌜ r ≡ referenceOk (now (s .entry)) at ⌝ }
 {
     let source = source_ok(
-        fields::u16_within(s, at + 12),
-        fields::u32_within(s, at + 14),
+        fields::u16_within(s, at + SOURCE_KIND),
+        fields::u32_within(s, at + SOURCE_NUMBER),
     );
-    let zeros = zero_box(s, at + 90);
-    let columns = fields::u16_within(s, at + 6);
-    let rows = fields::u16_within(s, at + 8);
-    let flags = fields::u16_within(s, at + 10);
+    let zeros = zero_box(s, at + SOURCE_BOX);
+    let columns = fields::u16_within(s, at + COLUMNS);
+    let rows = fields::u16_within(s, at + ROWS);
+    let flags = fields::u16_within(s, at + REFERENCE_FLAGS);
     grid_ok(columns, rows, flags, source, zeros)
 }
 
 pub fn cell_ok(s: &[u8], at: usize) -> bool
-    requires { ⌜ at + 56 ≤ length (now s) ⌝ }
+    requires { ⌜ at + endOf cell ≤ length (now s) ⌝ }
     ensures { λ r. ⌜ r ≡ cellOk (now (s .entry)) at ⌝ }
 {
-    let flags = fields::u16_within(s, at + 6);
+    let flags = fields::u16_within(s, at + CELL_FLAGS);
     if 2 <= flags {
         return false;
     }
     if flags == 1 {
         return true;
     }
-    zero_box(s, at + 16)
+    zero_box(s, at + CELL_BOX)
 }
 
 // "Are columns and rows at most 32,767, spare flag bits zero, absent boxes zero, the source kind 1 to 5,
@@ -97,7 +107,7 @@ pub fn values_ok(s: &[u8], at: usize) -> bool
     requires { ⌜ shapeOk (now s) at ≡ true ⌝ }
     ensures { λ r. ⌜ r ≡ valuesOk (now (s .entry)) at ⌝ }
 {
-    let kind = fields::u16_within(s, at + 4);
+    let kind = fields::u16_within(s, at + KIND);
     if kind == 4 {
         return reference_ok(s, at);
     }

@@ -1,12 +1,16 @@
--- Facts that the proofs of the crate's functions share.
---     Laws         what a reader of a valid sheet can rely on
+-- The two passes, the answers, and what a sound answer gives a reader of the sheet.
 --     Passes       the two passes over the records, step by step
 --     Answers      each answer by what leads to it, numbers 1 and 7 among them
+--     Verdict      the verdict says all that an answer does
 --     Valid        the answer is sound just where the sheet is valid
+--     WellFormed   a valid sheet is well formed
 --     Examples     small sheets and their answers, computed
+--     Passed       the counts of the records before an offset
+-- Assumes nothing.
 mod Passed
-pub mod Laws
 pub mod Passes
 pub mod Answers
+pub mod Verdict
 pub mod Valid
+pub mod WellFormed
 pub mod Examples

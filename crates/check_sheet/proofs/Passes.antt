@@ -17,7 +17,7 @@ use Rattle.check_sheet.specs.declared.Checked.the-variants.{Sound, Refus
 use Rattle.check_sheet.specs.Count.{tallied}
 use Rattle.check_sheet.specs.Links.{linkOk}
 use Rattle.check_sheet.specs.Check.{firstNo, firstUnnamed}
-use Rattle.check_sheet.specs.Passes.{AllNamed}
+use Rattle.check_sheet.specs.Valid.{AllNamed}
 
 module _ (s : List ℕ) (at : ℕ) (xs : List ℕ) (later : Checked) where
   pub first-no-pass : recordRefusal s at ≡ 0 → firstNo s (at ∷ xs) later ≡ firstNo s xs later

@@ -3,6 +3,7 @@
 use Prim.Native.Nat.{ℕ}
 use mathlib.Core.List.{List, [], _∷_}
 use mathlib.Core.Bool.{cond}
+use mathlib.Core.Option.{Option, none, some}
 use lib.ListN.{length}
 use lib.Dec.{leb, eqb}
 use Rattle.walk.specs.Offsets.{kindAt, offsets}
@@ -35,7 +36,9 @@ checkSheet s =
     (Refused 7 0)))
     (Refused 1 0)
 
--- The number that document 01 gives an answer: "No: 1" and so on, and 0 for none.
+-- ---- An answer in document 01's numbers
+
+-- "No: 1" and so on, and 0 for none
 abbrev pub numberOf : Checked → ℕ
 numberOf (Sound c) = 0
 numberOf (Refused number at) = number
@@ -44,3 +47,21 @@ numberOf (Refused number at) = number
 abbrev pub offsetOf : Checked → ℕ
 offsetOf (Sound c) = 0
 offsetOf (Refused number at) = at
+
+-- the counts that a sound sheet's answer carries
+abbrev pub countsIn : Checked → Option Counts
+countsIn (Sound c) = some c
+countsIn (Refused number at) = none
+
+pub record Verdict : Type 0 where
+  pub number : ℕ
+  pub offset : ℕ
+  pub counts : Option Counts
+
+-- "For any answer that is an enum, a definition gives this paper's number and values for each case."
+abbrev pub verdict : Checked → Verdict
+verdict r = record { number = numberOf r; offset = offsetOf r; counts = countsIn r }
+
+-- what document 01 says of some bytes: "The promises use that definition."
+abbrev pub verdictOf : List ℕ → Verdict
+verdictOf s = verdict (checkSheet s)

@@ -1,12 +1,12 @@
 -- Questions 1, 6 and 7 of document 01, "Before a plan: the questions", and the answer of a whole sheet.
---     Count     how many records there are of each kind
---     Links     question 7: what a record names
---     Check     the answer, with the paper's number and offset of each case
---     Passes    the two passes over the records, step by step
---     Valid     what a sheet is that passes
+--     Count        how many records there are of each kind
+--     Links        question 7: what a record names
+--     Check        the answer, with the paper's number and offset of each case
+--     Valid        what a sheet is that passes them
+--     WellFormed   the same in the words of the abstract sheet: what is named exists, the limits hold, every float is finite
 -- Assumes nothing.
 pub mod Count
 pub mod Links
 pub mod Check
-pub mod Passes
 pub mod Valid
+pub mod WellFormed

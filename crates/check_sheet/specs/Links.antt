@@ -7,6 +7,8 @@ use mathlib.Core.Bool.{Bool, true, cond}
 use lib.Dec.{ltb, eqb}
 use Rattle.fields.specs.Field.{uintAt}
 use Rattle.walk.specs.Offsets.{kindAt}
+use Rattle.records.specs.Format as field
+use Rattle.records.specs.Format.{reference, cell, endOf, fieldAt}
 use Rattle.check_record.specs.Tests.{both, every}
 use Rattle.check_sheet.specs.declared.Counts.{Counts}
 
@@ -22,20 +24,20 @@ sourceNamed kind number c own =
 unfoldable pub belowAt : List ℕ → ℕ → ℕ → Bool
 belowAt s count at = ltb (uintAt 4 s at) count
 
--- "every number in a cell": its four lists stand one after the other from byte 56 on
+-- "every number in a cell": its four lists stand one after the other behind its fields
 unfoldable pub listsNamed : List ℕ → Counts → ℕ → Bool
 listsNamed s c at =
-    let geometries = uintAt 2 s (at + 48) in
-    let texts = uintAt 2 s (at + 50) in
-    let nodes = uintAt 2 s (at + 52) in
-    let references = uintAt 2 s (at + 54) in
-    both (every (belowAt s (c .geometries)) 4 geometries (at + 56))
-    (both (every (belowAt s (c .texts)) 4 texts (at + 56 + 4 * geometries))
-    (both (every (belowAt s (c .nodes)) 4 nodes (at + 56 + 4 * (geometries + texts)))
-    (every (belowAt s (c .references)) 4 references (at + 56 + 4 * (geometries + texts + nodes)))))
+    let geometries = fieldAt cell field.geometryCount s at in
+    let texts = fieldAt cell field.textCount s at in
+    let nodes = fieldAt cell field.nodeCount s at in
+    let references = fieldAt cell field.referenceCount s at in
+    both (every (belowAt s (c .geometries)) 4 geometries (at + endOf cell))
+    (both (every (belowAt s (c .texts)) 4 texts (at + endOf cell + 4 * geometries))
+    (both (every (belowAt s (c .nodes)) 4 nodes (at + endOf cell + 4 * (geometries + texts)))
+    (every (belowAt s (c .references)) 4 references (at + endOf cell + 4 * (geometries + texts + nodes)))))
 
 -- own is the number that a reference here has
 unfoldable pub linkOk : List ℕ → Counts → ℕ → ℕ → Bool
 linkOk s c own at =
-    cond (eqb (kindAt s at) 4) (sourceNamed (uintAt 2 s (at + 12)) (uintAt 4 s (at + 14)) c own)
+    cond (eqb (kindAt s at) 4) (sourceNamed (fieldAt reference field.sourceKind s at) (fieldAt reference field.sourceNumber s at) c own)
     (cond (eqb (kindAt s at) 5) (listsNamed s c at) true)

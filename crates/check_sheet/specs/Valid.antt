@@ -1,14 +1,22 @@
--- What a sheet is that passes questions 1 to 7, for those who read it: the answer is sound just where the sheet is valid.
--- Definitions only.
+-- What a sheet is that passes questions 1 to 7. The answer is sound just where the sheet is valid (`sound-valid`, `valid-sound`).
+-- Definitions only. Assumes nothing.
+use mathlib.Core.Path.{_≡_}
 use Prim.Native.Nat.{ℕ, _≤_}
-use mathlib.Core.List.{List}
+use mathlib.Core.List.{List, [], _∷_}
+use mathlib.Core.Bool.{true}
 use lib.ListN.{length}
-use Rattle.walk.specs.Offsets.{offsets}
+use Rattle.walk.specs.Offsets.{kindAt, offsets}
 use Rattle.walk.specs.Find.{countOf}
 use Rattle.walk.specs.Every.{All}
 use Rattle.check_record.specs.Record.{Right}
-use Rattle.check_sheet.specs.Count.{countsOf}
-use Rattle.check_sheet.specs.Passes.{AllNamed}
+use Rattle.check_sheet.specs.declared.Counts.{Counts}
+use Rattle.check_sheet.specs.Count.{countsOf, tallied}
+use Rattle.check_sheet.specs.Links.{linkOk}
+
+-- what each record of a list names exists, where own is the number of the first reference among them
+abbrev pub AllNamed : List ℕ → Counts → ℕ → List ℕ → Type 0
+AllNamed s c own [] = Unit
+AllNamed s c own (at ∷ xs) = (linkOk s c own at ≡ true) × AllNamed s c (tallied own (kindAt s at) 4) xs
 
 pub record Valid (s : List ℕ) : Type 0 where
   -- question 1

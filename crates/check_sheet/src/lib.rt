@@ -1,6 +1,6 @@
 // Whether a sheet can be planned: questions 1 to 7 of document 01. Nothing is written.
 ghost use mathlib.Core.Path.{_≡_};
-ghost use Rattle.check_sheet.specs.Check.{checkSheet};
+ghost use Rattle.check_sheet.specs.Check.{verdict, verdictOf};
 
 mod links;
 mod scan;
@@ -22,7 +22,7 @@ pub enum Checked {
 
 // Any bytes get an answer, in two passes over them.
 pub fn check_sheet(s: &[u8]) -> Checked
-    ensures { λ r. ⌜ r ≡ checkSheet (now (s .entry)) ⌝ }
+    ensures { λ r. ⌜ verdict r ≡ verdictOf (now (s .entry)) ⌝ }
 {
     if 16777216 < s.len() {
         return Checked::Refused(1, 0);

@@ -4,6 +4,7 @@ ghost use Prim.Native.Nat.{_+_, _*_, _≤_};
 ghost use lib.ListN.{length};
 ghost use Rattle.walk.specs.Offsets.{offsets};
 ghost use Rattle.walk.specs.Every.{All};
+ghost use Rattle.records.specs.Format.{cell, endOf};
 ghost use Rattle.check_record.specs.Tests.{every};
 ghost use Rattle.check_record.specs.Shape.{listsAt};
 ghost use Rattle.check_record.specs.Record.{Right};
@@ -13,6 +14,14 @@ ghost use Rattle.check_sheet.specs.Check.{firstUnnamed};
 use crate::Checked;
 use crate::Counts;
 use crate::scan::tally;
+use records::format::CELL_END;
+use records::format::GEOMETRY_COUNT;
+use records::format::NODE_COUNT;
+use records::format::REFERENCE_COUNT;
+use records::format::SOURCE_KIND;
+use records::format::SOURCE_NUMBER;
+use records::format::TEXT_COUNT;
+use walk::KIND;
 
 // Whether `count` numbers side by side are below a bound.
 pub fn all_below(s: &[u8], from: usize, count: usize, bound: u32) -> bool
@@ -47,19 +56,19 @@ pub fn source_named(kind: u16, number: u32, c: Counts, own: u32) -> bool
 
 // Whether every number in a cell names an existing record.
 pub fn lists_named(s: &[u8], c: Counts, at: usize) -> bool
-    requires { ⌜ at + 56 + 4 * listsAt (now s) at ≤ length (now s) ⌝ }
+    requires { ⌜ at + endOf cell + 4 * listsAt (now s) at ≤ length (now s) ⌝ }
     ensures { λ r. ⌜ r ≡ listsNamed (now (s .entry)) c at ⌝ }
 {
-    let geometries = fields::u16_within(s, at + 48) as usize;
-    let texts = fields::u16_within(s, at + 50) as usize;
-    let nodes = fields::u16_within(s, at + 52) as usize;
-    let references = fields::u16_within(s, at + 54) as usize;
-    if all_below(s, at + 56, geometries, c.geometries) {
-        if all_below(s, at + 56 + 4 * geometries, texts, c.texts) {
-            if all_below(s, at + 56 + 4 * (geometries + texts), nodes, c.nodes) {
+    let geometries = fields::u16_within(s, at + GEOMETRY_COUNT) as usize;
+    let texts = fields::u16_within(s, at + TEXT_COUNT) as usize;
+    let nodes = fields::u16_within(s, at + NODE_COUNT) as usize;
+    let references = fields::u16_within(s, at + REFERENCE_COUNT) as usize;
+    if all_below(s, at + CELL_END, geometries, c.geometries) {
+        if all_below(s, at + CELL_END + 4 * geometries, texts, c.texts) {
+            if all_below(s, at + CELL_END + 4 * (geometries + texts), nodes, c.nodes) {
                 all_below(
                     s,
-                    at + 56 + 4 * (geometries + texts + nodes),
+                    at + CELL_END + 4 * (geometries + texts + nodes),
                     references,
                     c.references,
                 )
@@ -79,10 +88,10 @@ pub fn link_ok(s: &[u8], c: Counts, own: u32, at: usize) -> bool
     requires { ⌜ Right (now s) at ⌝ }
     ensures { λ r. ⌜ r ≡ linkOk (now (s .entry)) c own at ⌝ }
 {
-    let kind = fields::u16_within(s, at + 4);
+    let kind = fields::u16_within(s, at + KIND);
     if kind == 4 {
-        let source = fields::u16_within(s, at + 12);
-        let number = fields::u32_within(s, at + 14);
+        let source = fields::u16_within(s, at + SOURCE_KIND);
+        let number = fields::u32_within(s, at + SOURCE_NUMBER);
         return source_named(source, number, c, own);
     }
     if kind == 5 {
@@ -101,7 +110,7 @@ pub fn links(s: &[u8], c: Counts) -> Checked
     let mut own = 0;
     while at < s.len() {
         if link_ok(s, c, own, at) {
-            own = tally(own, fields::u16_within(s, at + 4), 4);
+            own = tally(own, fields::u16_within(s, at + KIND), 4);
             at += fields::u32_within(s, at) as usize;
         } else {
             return Checked::Refused(6, at);

@@ -8,6 +8,7 @@ ghost use Rattle.check_sheet.specs.Count.{countsOf, tallied, counted, At
 ghost use Rattle.check_sheet.specs.Check.{firstNo};
 use crate::Checked;
 use crate::Counts;
+use walk::KIND;
 
 // n, and one more where a record is of the kind k.
 pub fn tally(n: u32, kind: u16, k: u16) -> u32
@@ -49,7 +50,7 @@ pub fn scan(s: &[u8]) -> Checked
         if number != 0 {
             return Checked::Refused(number, at);
         }
-        counts = count(fields::u16_within(s, at + 4), counts);
+        counts = count(fields::u16_within(s, at + KIND), counts);
         at += fields::u32_within(s, at) as usize;
     }
     Checked::Sound(counts)

@@ -1,13 +1,13 @@
-// Questions 1 to 7 for C and Rust to call, under the contract of `sheet`. `bench/sheet` measures it.
+// Questions 1 to 7 for C and Rust to call, under the contract of `check_sheet`. `bench/sheet` measures it.
 ghost use mathlib.Core.Path.{_≡_};
-ghost use Rattle.check_sheet.specs.Check.{checkSheet, numberOf, offsetOf};
+ghost use Rattle.check_sheet.specs.Check.{verdictOf};
 use check_sheet::Checked;
 
 // The number of the first no, with its offset, or 0 and 0 for a sound sheet.
 #[no_mangle]
 pub extern "C" fn sheet_check(s: &[u8], offset: &mut usize) -> u32
-    ensures { λ r. ⌜ r ≡ numberOf (checkSheet (now (s .entry))) ⌝ }
-    ensures { λ _. ⌜ now (offset .exit) ≡ offsetOf (checkSheet (now (s .entry))) ⌝ }
+    ensures { λ r. ⌜ r ≡ verdictOf (now (s .entry)) .number ⌝ }
+    ensures { λ _. ⌜ now (offset .exit) ≡ verdictOf (now (s .entry)) .offset ⌝ }
 {
     match check_sheet::check_sheet(s) {
         Checked::Sound(_) => {

@@ -1,25 +1,19 @@
--- DEMAND 3 OF A CALL: an accepted call's output is the records of the rules' events, of which demand 3 is proved. Acceptance gives what questions 4, 9 and 10 ask.
+-- AN ACCEPTED CALL: its output is the records of the rules' events, and acceptance gives what questions 4, 9 and 10 ask (`accepted-call`). So demand 3 of the rules is demand 3 of a call.
 -- Assumes nothing.
-use mathlib.Core.Path.{_≡_, refl, sym, ap, _∙_, subst}
-use mathlib.Core.Bool.{Bool, true, false, cond, _&&_}
+use mathlib.Core.Path.{_≡_, refl, sym, ap, subst, _∙_}
+use mathlib.Core.Bool.{Bool, true, false, cond}
 use mathlib.Core.List.{List, [], _∷_, _++_}
-use mathlib.Core.Option.{some}
-use Prim.Native.Nat.{ℕ, suc, _+_, _≤_}
+use Prim.Native.Nat.{ℕ, suc, _≤_}
 use native.Mathlib.Omega.{arith}
 use lib.ListN.{length, drop, replicate}
-use lib.Dec.{leb, leb→le, eqb}
+use lib.Dec.{leb, eqb}
 use lib.Ieee.Fits.{eq→eqb}
 use lib.Dec.{T as Yes}
 use lib.IntN.{pos}
 use lib.Ieee.{fin, lt}
-use Rattle.floats.specs.Order.{isFinite}
-use Rattle.walk.specs.declared.Found.{Found}
-use Rattle.walk.specs.declared.Found.the-variants.{At, Nothing}
-use Rattle.walk.specs.Find.{find, countOf}
+use Rattle.walk.specs.Find.{countOf}
 use Rattle.walk.specs.Offsets.{offsets}
-use Rattle.records.specs.declared.PreparedReference.{PreparedReference}
-use Rattle.records.specs.Records.{gridAt, referenceAt}
-use Rattle.abstract_sheet.specs.Sheet.{Sheet, read, sheetOf}
+use Rattle.abstract_sheet.specs.Sheet.{Sheet, sheetOf}
 use Rattle.check_record.specs.Record.{recordRefusal}
 use Rattle.check_sheet.specs.declared.Counts.{Counts}
 use Rattle.check_sheet.specs.declared.Checked.{Checked}
@@ -29,36 +23,31 @@ use Rattle.check_sheet.specs.Links.{linkOk}
 use Rattle.check_sheet.specs.Check.{firstNo, firstUnnamed, checkSheet}
 use Rattle.check_sheet.specs.Valid.{Valid}
 use Rattle.check_sheet.proofs.Valid.{sound-valid, sound-counts}
-use Rattle.check_sheet.proofs.Laws.Values.{columns-most, rows-most}
+use Rattle.check_sheet.proofs.WellFormed.Limits.{reference-limits}
 use Rattle.plan_rules.specs.declared.ScenePlan.{ScenePlan}
 use Rattle.plan_rules.specs.declared.Answer.the-variants.{Planned, Refused}
 use Rattle.plan_rules.specs.Limits.{maxDepth}
-use Rattle.plan_rules.specs.Event.{Event, Step, emptyPlan, after}
+use Rattle.plan_rules.specs.Event.{Event, Step, encode, emptyPlan, after}
 use Rattle.plan_rules.specs.World.{Query, world}
 use Rattle.plan_rules.specs.Scratch.{countsNamed, marksNamed}
 use Rattle.plan_rules.specs.Plan.{plan}
-use Rattle.plan_rules.specs.Tape.{encode, noTag, note, tape}
-use Rattle.plan_rules.specs.Outcome.{Outcome, outcome, viewOk, zoomOk, freshPlan, tapeOf, zeroed, delivered, soundOutcome, checkedOutcome, outcomeOf}
+use Rattle.plan_rules.specs.Tape.{noTag, note, tape}
+use Rattle.plan_rules.specs.Outcome.{Outcome, outcome, freshPlan, tapeOf, zeroed, delivered, soundOutcome, checkedOutcome, outcomeOf}
+use Rattle.plan_rules.proofs.Questions.{passed, zoom-positive}
+use Rattle.plan_rules.proofs.OutcomeTheorem.{query-passed, accepted-passed}
 use Rattle.plan_rules.proofs.Simulation.{the-relation}
 use Rattle.plan_rules.proofs.Simulation.Premises.{Room, no-premises}
 use Rattle.plan_rules.proofs.Simulation.Visits.{plan-sim}
-use Rattle.cover.specs.Square.{FewMembers}
-use Rattle.cover.specs.Trace.{Trace, enter, events}
-use Rattle.cover.specs.Demand3.{LosesNothing, IsTape, Demand3}
+use Rattle.paths.specs.Square.{FewMembers}
+use Rattle.cover.specs.Trace.{enter, events}
+use Rattle.cover.specs.Demand3.{Brought, eventsOf, IsTape, Demand3}
 use Rattle.cover.proofs.TagPaths.{Tagged, paths-tape}
 use Rattle.cover.proofs.Demand3.{demand-3-of-rules}
 
 -- ---- question 4: columns and rows
 
-found-reference : (s : List ℕ) (n : ℕ) (f : Found) (r : PreparedReference) → find s 4 n ≡ f → read (referenceAt s) f ≡ some r → (at : ℕ) × (find s 4 n ≡ At at) × (referenceAt s at ≡ r)
-found-reference s n (At at) r e h = (at, e, (let z : referenceAt s at ≡ r = cc in z))
-found-reference s n Nothing r e h = absurd (let z : _≡_ {A = ℕ} 0 1 = cc in let y : ⊥ = omega arith in y)
-
 valid-few : (s : List ℕ) → Valid s → FewMembers (sheetOf s)
-unfolding sheetOf referenceAt gridAt
-valid-few s valid n r e =
-    let k = found-reference s n (find s 4 n) r refl e in
-    subst (λ (r : PreparedReference). (r .grid .columns ≤ 32767) × (r .grid .rows ≤ 32767)) (k .2) (columns-most s valid n (k .0) (k .1), rows-most s valid n (k .0) (k .1))
+valid-few s valid n r e = let limits = reference-limits s valid n r e in (limits .columns, limits .rows)
 
 -- ---- questions 1 to 7: an answer with number 0 is sound
 
@@ -103,30 +92,33 @@ sheet-numbered s =
 
 -- ---- questions 8 to 12: an outcome with number 0 passed each of them
 
-passed : (b : Bool) (x : Outcome) (n : ℕ) (o k m : List ℕ) → (cond b x (outcome (Refused (suc n) 0) o k m)) .number ≡ 0 → Yes b × (cond b x (outcome (Refused (suc n) 0) o k m) ≡ x)
-passed true x n o k m e = (tt, refl)
-passed false x n o k m e = absurd (let y : ⊥ = omega arith in y)
-
-both : (a b : Bool) → Yes (a && b) → Yes a × Yes b
-both true b t = (tt, t)
-both false b t = absurd t
-
 pub record Passed (S : Sheet) (cells : ℕ) (q : Query) (o k m : List ℕ) : Type 0 where
   pub zoom : Yes (lt (fin false 0 (pos 0)) (q .zoom))
   pub depth : q .depth ≤ maxDepth
   pub planned : soundOutcome S cells q o k m
       ≡ outcome (Planned (length (tapeOf S cells q))) (tapeOf S cells q ++ drop (length (tapeOf S cells q)) o) (zeroed (countsNamed cells (q .depth)) k) (zeroed (marksNamed cells (q .depth)) m)
 
+-- an outcome with number 0 is no refusal
+unrefused : (b : Bool) (x : Outcome) (n : ℕ) (o k m : List ℕ) → (cond b x (outcome (Refused (suc n) 0) o k m)) .number ≡ 0 → cond b x (outcome (Refused (suc n) 0) o k m) ≡ x
+unrefused true x n o k m e = refl
+unrefused false x n o k m e = absurd (let y : ⊥ = omega arith in y)
+
+-- question 12
+fitted : (t : List ℕ) (nk nm : ℕ) (o k m : List ℕ) → (delivered t nk nm o k m) .number ≡ 0
+    → delivered t nk nm o k m ≡ outcome (Planned (length t)) (t ++ drop (length t) o) (zeroed nk k) (zeroed nm m)
+unfolding delivered
+fitted t nk nm o k m e = unrefused (leb (length t) (length o)) _ 11 _ _ _ e
+
 sound-passed : (S : Sheet) (cells : ℕ) (q : Query) (o k m : List ℕ) → (soundOutcome S cells q o k m) .number ≡ 0 → Passed S cells q o k m
-unfolding soundOutcome delivered zoomOk
 sound-passed S cells q o k m e =
-    let view = passed (viewOk (q .view)) _ 7 o k m e in
-    let zoom = passed (zoomOk (q .zoom)) _ 8 o k m (ap (λ (x : Outcome). x .number) (sym (view .1)) ∙ e) in
-    let depth = passed (leb (q .depth) maxDepth) _ 9 o k m (ap (λ (x : Outcome). x .number) (sym (view .1 ∙ zoom .1)) ∙ e) in
-    let scratch = passed (leb (countsNamed cells (q .depth)) (length k) && leb (marksNamed cells (q .depth)) (length m)) _ 10 o k m (ap (λ (x : Outcome). x .number) (sym (view .1 ∙ zoom .1 ∙ depth .1)) ∙ e) in
-    let room = passed (leb (length (tapeOf S cells q)) (length o)) _ 11 (replicate (length o) 0) (zeroed (countsNamed cells (q .depth)) k) (zeroed (marksNamed cells (q .depth)) m)
-    (ap (λ (x : Outcome). x .number) (sym (view .1 ∙ zoom .1 ∙ depth .1 ∙ scratch .1)) ∙ e) in
-    record { zoom = (both (isFinite (q .zoom)) (lt (fin false 0 (pos 0)) (q .zoom)) (zoom .0)) .1; depth = leb→le (q .depth) maxDepth (depth .0); planned = view .1 ∙ zoom .1 ∙ depth .1 ∙ scratch .1 ∙ room .1 }
+    let no-no = accepted-passed S cells q o k m e in
+    let asked = passed _ _ _ _ _ _ no-no in
+    let delivering = query-passed S cells q o k m no-no in
+    record {
+      zoom = subst Yes (sym (zoom-positive (q .zoom) (asked .zoom-ok))) tt;
+      depth = asked .depth-within;
+      planned = delivering ∙ fitted _ _ _ o k m (ap (λ (x : Outcome). x .number) (sym delivering) ∙ e);
+    }
 
 -- ---- the tape does not depend on the tag
 
@@ -137,10 +129,10 @@ module _ (S : Sheet) (cells : ℕ) (q : Query) where
   keeps : (ta : List Step) (tb : Unit {0}) (e : Event) → Unit {0} → (s : ScenePlan) → Room s e → (a : Tagged) (b : List (Unit {0} × Event)) → SameTape s a b → SameTape (after e s) (note ta e (s .«tape_end») a) (note tb e (s .«tape_end») b)
   keeps ta tb e ok s room a b r = ap (λ (t : List ℕ). t ++ encode e) r
 
-  abbrev marks : List ℕ
+  abbrev pub marks : List ℕ
   marks = replicate (marksNamed cells (q .depth)) 0
 
-  abbrev counts : List ℕ
+  abbrev pub counts : List ℕ
   counts = replicate (countsNamed cells (q .depth)) 0
 
   events-tape : tape (events S cells q counts marks) ≡ tapeOf S cells q
@@ -151,22 +143,40 @@ module _ (S : Sheet) (cells : ℕ) (q : Query) where
 
 -- ---- the call
 
-pub demand-3 : Demand3
+-- what acceptance gives: what questions 4, 9 and 10 ask, and an output that is the records of the rules' events
+pub record Accepted (s : List ℕ) (q : Query) (o k m : List ℕ) : Type 0 where
+  pub few : FewMembers (sheetOf s)
+  pub zoom : Yes (lt (fin false 0 (pos 0)) (q .zoom))
+  pub depth : q .depth ≤ maxDepth
+  pub tape : IsTape s q (outcomeOf s q o k m) (eventsOf s q) o
+
+pub accepted-call : (s : List ℕ) (q : Query) (o k m : List ℕ) → (outcomeOf s q o k m) .number ≡ 0 → Accepted s q o k m
 unfolding outcomeOf
-demand-3 s q o k m square true-boxes view zoom e = by (checkSheet s) refl (sheet-numbered s) e
+accepted-call s q o k m e =
+    let a = by (checkSheet s) refl (sheet-numbered s) e in
+    record { few = a .0; zoom = a .1; depth = a .2; tape = a .3 }
   where
-    by : (x : Checked) → checkSheet s ≡ x → Numbered x → (checkedOutcome x (sheetOf s) q o k m) .number ≡ 0 → (trace : Trace) × IsTape s q (checkedOutcome x (sheetOf s) q o k m) trace o × LosesNothing (sheetOf s) q trace
+    by : (x : Checked) → checkSheet s ≡ x → Numbered x → (checkedOutcome x (sheetOf s) q o k m) .number ≡ 0
+        → FewMembers (sheetOf s) × Yes (lt (fin false 0 (pos 0)) (q .zoom)) × (q .depth ≤ maxDepth) × IsTape s q (checkedOutcome x (sheetOf s) q o k m) (eventsOf s q) o
     by (checked.Refused n at) h f e = absurd (let z : _≡_ {A = ℕ} 0 1 = (let c = (f e) .1 in cc) in let y : ⊥ = omega arith in y)
     by (checked.Sound c) h f e =
         let S = sheetOf s in
         let p = sound-passed S (c .cells) q o k m e in
-        let t = events-tape S (c .cells) q in
-        let d = p .depth in (
-          events S (c .cells) q (counts S (c .cells) q) (marks S (c .cells) q),
+        let t = sym (events-tape S (c .cells) q) ∙ ap (λ (c : Counts). tape (events S (c .cells) q (counts S (c .cells) q) (marks S (c .cells) q))) (sound-counts s c h) in (
+          valid-few s (sound-valid s c h),
+          p .zoom,
+          p .depth,
           record {
-            ran = ap (λ (c : Counts). events S (c .cells) q (counts S (c .cells) q) (marks S (c .cells) q)) (sound-counts s c h);
-            tapeLength = ap (λ (x : Outcome). x .tapeLength) (p .planned) ∙ ap length (sym t);
-            out = ap (λ (x : Outcome). x .out) (p .planned) ∙ ap (λ (b : List ℕ). b ++ drop (length b) o) (sym t);
+            ran = refl;
+            tapeLength = ap (λ (x : Outcome). x .tapeLength) (p .planned) ∙ ap length t;
+            out = ap (λ (x : Outcome). x .out) (p .planned) ∙ ap (λ (b : List ℕ). b ++ drop (length b) o) t;
           },
-          demand-3-of-rules S square true-boxes (valid-few s (sound-valid s c h)) q (record { view = view; zoom = record { positive = p .zoom; most = zoom }; depth = omega arith }) (c .cells) (counts S (c .cells) q) (marks S (c .cells) q),
         )
+
+pub demand-3 : Demand3
+demand-3 s q o k m square true-boxes view zoom e =
+    let a = accepted-call s q o k m e in
+    let S = sheetOf s in
+    let cells = countsOf s .cells in
+    let brought : Brought q = record { view = view; zoom = record { positive = a .zoom; most = zoom }; depth = omega (arith, a .depth) } in
+    (eventsOf s q, a .tape, demand-3-of-rules S square true-boxes (a .few) q brought cells (counts S cells q) (marks S cells q))

@@ -3,41 +3,42 @@
 use mathlib.Core.Path.{_≡_, refl, sym, _∙_, subst}
 use mathlib.Core.List.{List, [], _∷_}
 use Rattle.abstract_sheet.specs.Sheet.{Sheet}
+use Rattle.exact.specs.Screen.{ZoomWithin}
 use Rattle.plan_rules.specs.Event.{Event, nodeGridLimit, Step, member, emptyPlan}
 use Rattle.plan_rules.specs.World.{Query, World, world}
 use Rattle.plan_rules.specs.Plan.{plan}
 use Rattle.plan_rules.specs.Tape.{note}
 use Rattle.cover.specs.Path.{Path, Item}
-use Rattle.cover.specs.Trace.{enter, pathOf, IsRecord}
-use Rattle.cover.specs.Covered.{IsSkip, Skipped, MeetsLimit, Covers, listed, within-proxy, within-dropped-proxy, in-skipped, follows, ListsItsPath}
+use Rattle.cover.specs.Trace.{enter, pathOf}
+use Rattle.cover.specs.Covered.{IsSkip, Skipped, MeetsLimit, Covers, listed, within-proxy, within-dropped-proxy, in-skipped, follows}
 use Rattle.cover.specs.Demand3.{Demand3OfRules}
 use Rattle.cover.proofs.TagPaths.{Tagged, back-path, back-whole, paths-any, paths-all, any-all, any-map, all-map}
 use Rattle.cover.proofs.Cover.Claims.{Claims, by-record, by-proxy, by-dropped, by-skip, by-limit}
 use Rattle.cover.proofs.Cover.Visits.{plan-claims}
-use Rattle.cover.proofs.EventFacts.{EventFact, listed-fact, skipped-fact, limit-fact, plan-facts}
+use Rattle.cover.proofs.EventFacts.{EventFact, skipped-fact, limit-fact, plan-facts, plan-listed}
 use Rattle.cover.proofs.Once.Visits.{plan-once, no-path-twice}
 use Rattle.cover.proofs.Tally.{plan-drops-when-full}
 
 -- a claim, with what the event says
-covers : (S : Sheet) (q : Query) (p : Path) (h : Item) (t : List Step) (e : Event) → Claims p h t e → EventFact S q t e → Covers S q p h (pathOf t) e
-covers S q p h t e (by-record z l) s = subst (λ (r : Path). Covers S q p h r e) (sym z ∙ back-whole t) (listed l)
-covers S q p h t e (by-proxy i w) s = within-proxy i w
-covers S q p h t e (by-dropped i w) s = within-dropped-proxy i w
-covers S q p h t e (by-skip r z k) s = in-skipped r (skipped-fact S q t e s k) (sym z ∙ back-path t r)
-covers S q p h t e (by-limit {t = u} x y r z late) s = follows x y r (s .1) late (sym z ∙ back-path u (member x y ∷ r))
+covers : (S : Sheet) (q : Query) → ZoomWithin (q .zoom) → (p : Path) (h : Item) (t : List Step) (e : Event) → Claims p h t e → EventFact S q t e → Covers S q p h (pathOf t) e
+covers S q zoom p h t e (by-record z l) s = subst (λ (r : Path). Covers S q p h r e) (sym z ∙ back-whole t) (listed l)
+covers S q zoom p h t e (by-proxy i w) s = within-proxy i w
+covers S q zoom p h t e (by-dropped i w) s = within-dropped-proxy i w
+covers S q zoom p h t e (by-skip r z k) s = in-skipped r (skipped-fact S q zoom t e s k) (sym z ∙ back-path t r)
+covers S q zoom p h t e (by-limit {t = u} x y r z late) s = follows x y r (s .1) late (sym z ∙ back-path u (member x y ∷ r))
 
 pub demand-3-of-rules : Demand3OfRules
 demand-3-of-rules S square true-boxes few q brought cells counts marks =
     let begin : World Tagged = world emptyPlan [] counts marks in
     let tagged : Tagged = (plan enter note S cells q [] begin) .out in
-    let facts = plan-facts S q (brought .zoom) few square cells (brought .depth) begin refl in
+    let facts = plan-facts S q few square cells (brought .depth) begin refl in
     record {
       covered = λ p h leads v shown.
           paths-any (λ (x : Path × Event). Covers S q p h (x .0) (x .1)) tagged
-          (any-map _ (λ x k. covers S q p h (x .0) (x .1) (k .0) (k .1)) (any-all (plan-claims S cells q (brought .view) few square true-boxes (brought .depth) p h leads v shown begin) facts));
-      listed = paths-all (λ (x : Path × Event). IsRecord (x .1) → ListsItsPath S q (x .0) (x .1)) tagged (all-map _ (λ x s. listed-fact S q (x .0) (x .1) s) facts);
+          (any-map _ (λ x k. covers S q (brought .zoom) p h (x .0) (x .1) (k .0) (k .1)) (any-all (plan-claims S cells q (brought .view) few square true-boxes (brought .depth) p h leads v shown begin) facts));
+      listed = plan-listed S q few square cells (brought .depth) counts marks;
       once = no-path-twice tagged (plan-once S cells q counts marks);
       dropped = plan-drops-when-full S cells q counts marks;
-      skipped = paths-all (λ (x : Path × Event). IsSkip (x .1) → Skipped S q (x .0) (x .1)) tagged (all-map _ (λ x s. skipped-fact S q (x .0) (x .1) s) facts);
+      skipped = paths-all (λ (x : Path × Event). IsSkip (x .1) → Skipped S q (x .0) (x .1)) tagged (all-map _ (λ x s. skipped-fact S q (brought .zoom) (x .0) (x .1) s) facts);
       limits = paths-all (λ (x : Path × Event). x .1 ≡ nodeGridLimit → MeetsLimit S q (x .0)) tagged (all-map _ (λ x s. limit-fact S q (x .0) (x .1) s) facts);
     }

@@ -1,12 +1,11 @@
 -- TRUE BOXES HOLD whatever a path of any length reaches: by induction on the path, on integers. This is the one place where true boxes enter.
 -- Assumes nothing.
-use mathlib.Core.Path.{_≡_, refl, sym, ap, _∙_, subst}
+use mathlib.Core.Path.{_≡_, ap, _∙_}
 use mathlib.Core.Option.{some}
 use Prim.Native.Nat.{ℕ, _<_}
 use native.Mathlib.Omega.{arith}
 use Rattle.geometry.specs.declared.bbox.WorldBBox.{WorldBBox}
 use Rattle.geometry.specs.declared.bbox.Bounds.{Bounds}
-use Rattle.geometry.specs.declared.bbox.Bounds.the-variants.{Absent, Box}
 use Rattle.geometry.specs.Bbox.{bbox, boxed}
 use Rattle.geometry.specs.Grid.{cornersBbox}
 use Rattle.records.specs.declared.PreparedSource.{PreparedSource}
@@ -17,18 +16,19 @@ use Rattle.records.specs.declared.PreparedReference.{PreparedReference}
 use Rattle.abstract_sheet.specs.Sheet.{NodeRecord, CellRecord, Sheet}
 use Rattle.exact.specs.Placement.{ExactPlacement, vectorOf}
 use Rattle.exact.specs.Member.{gridOf}
-use Rattle.exact.specs.Box.{IntegerBox, pointBox, SameBox, Inside, boxOf, place, referenceBox}
-use Rattle.exact.proofs.Boxes.Relations.{encloses-self, encloses-trans, same-encloses, encloses-holds, point-holds, holds-point}
+use Rattle.exact.specs.Box.{IntegerBox, pointBox, Inside, boxOf, place, referenceBox}
+use Rattle.exact.proofs.Boxes.Relations.{encloses-self, encloses-trans, same-enclosed, encloses-holds, point-holds}
 use Rattle.exact.proofs.Boxes.Reading.{boxOf-same}
 use Rattle.exact.proofs.Boxes.Place.{place-holds, place-encloses}
 use Rattle.exact.proofs.Boxes.Reference.{placed-reference-box-encloses-member}
 use Rattle.exact.proofs.Boxes.ReferenceRounded.{corners-bbox-exact, reference-bbox-present}
 use Rattle.plan_rules.specs.Event.{Step}
+use Rattle.paths.specs.Square.{Square, FewMembers}
+use Rattle.paths.specs.TrueBoxes.{referenceBounds, cellBounds, TrueSourceBox, TrueBoxes}
+use Rattle.paths.proofs.Square.{box-is, box-within, bounds-square, reference-grid}
+use Rattle.paths.proofs.TrueBoxes.{Surrounds, enclosing, present, same-present, bounds-enclosing, least-surrounds}
 use Rattle.cover.specs.Path.{Path, Item, aBatch, aText, aPoint, memberAt, StepLeads, to-batch, to-text, to-node, to-reference, through-member, Leads, at-batch, at-text, at-point, step}
-use Rattle.cover.specs.Square.{Square, FewMembers}
-use Rattle.cover.specs.TrueBoxes.{Encloses, EnclosesBounds, IsThere, SameBounds, IsLeastBox, referenceBounds, cellBounds, TrueSourceBox, TrueBoxes}
 use Rattle.cover.specs.View.{placedBatch, textPosition, pointPosition, WithinBox}
-use Rattle.cover.proofs.Reading.{box-is, box-within, bounds-square, grid-is}
 
 -- ---- boxes
 
@@ -36,41 +36,6 @@ pub within-larger : (h : Item) (a b : IntegerBox) → Inside a b → WithinBox h
 within-larger (aBatch n g T) a b s w = encloses-trans (placedBatch g T) a b w s
 within-larger (aText n x T) a b s w = encloses-holds a b (textPosition x T) s w
 within-larger (aPoint n x j T) a b s w = encloses-holds a b (pointPosition x j T) s w
-
-same-symmetric : (a b : IntegerBox) → SameBox a b → SameBox b a
-same-symmetric a b h = let x = h .«min_x» in let y = h .«min_y» in let z = h .«max_x» in let w = h .«max_y» in record { «min_x» = sym x; «min_y» = sym y; «max_x» = sym z; «max_y» = sym w }
-
--- a box that is there and has z inside
-abbrev pub Surrounds : Bounds → IntegerBox → Type 0
-Surrounds o z = (b : WorldBBox) × (o ≡ boxed b) × Inside z (boxOf b)
-
-enclosing : (o : Bounds) (z : IntegerBox) → Encloses o z → Surrounds o z
-unfolding boxed
-enclosing Absent z h = absurd h
-enclosing (Box a b c d) z h = (bbox a b c d, refl, h)
-
-present : (o : Bounds) (z : IntegerBox) → IsThere o z → Surrounds o z
-unfolding boxed
-present Absent z h = absurd h
-present (Box a b c d) z h = (bbox a b c d, refl, same-encloses z (boxOf (bbox a b c d)) (same-symmetric (boxOf (bbox a b c d)) z h))
-
--- the same as a box that is there
-same-present : (o u : Bounds) (b : WorldBBox) → u ≡ boxed b → SameBounds o u → Surrounds o (boxOf b)
-unfolding boxed
-same-present o u b e h = by o (subst (λ (x : Bounds). SameBounds o x) e h)
-  where
-    by : (o : Bounds) → SameBounds o (boxed b) → Surrounds o (boxOf b)
-    by Absent h = absurd h
-    by (Box x₀ y₀ x₁ y₁) h = present (Box x₀ y₀ x₁ y₁) (boxOf b) h
-
-bounds-enclosing : (o u : Bounds) (b : WorldBBox) → u ≡ boxed b → EnclosesBounds o u → Surrounds o (boxOf b)
-unfolding boxed
-bounds-enclosing o u b e h = enclosing o (boxOf b) (subst (λ (x : Bounds). EnclosesBounds o x) e h)
-
-least-surrounds : (o : Bounds) (x : NodeRecord) → IsLeastBox o x → (j : ℕ) → j < x .count → Surrounds o (pointBox (vectorOf (x .point j)))
-unfolding boxed
-least-surrounds Absent x h j j< = absurd h
-least-surrounds (Box a b c d) x h j j< = (bbox a b c d, refl, holds-point (boxOf (bbox a b c d)) (vectorOf (x .point j)) (h .holds j j<))
 
 -- "other batches aren't covered"
 abbrev pub HasElements : Item → Type 0
@@ -100,8 +65,8 @@ module _ (S : Sheet) (few : FewMembers S) (sq : Square S) (true-boxes : TrueBoxe
       let g = r .grid in
       let z = referenceBox (gridOf g) (g .columns) (g .rows) (boxOf b) in
       let s = bounds-square (r .«source_bbox») b eb (sq .source-box n r e) in
-      let i = corners-bbox-exact g (gridOf g) (grid-is g (few n r e) (sq .grid n r e)) b (boxOf b) (box-is b s) (s .proper) (box-within b s) in
-      (ap (referenceBounds r) eb ∙ reference-bbox-present g b c> r>, same-encloses z (boxOf (cornersBbox g b)) (same-symmetric (boxOf (cornersBbox g b)) z (boxOf-same (cornersBbox g b) z i)))
+      let i = corners-bbox-exact g (gridOf g) (reference-grid S few sq n r e) b (boxOf b) (box-is b s) (s .proper) (box-within b s) in
+      (ap (referenceBounds r) eb ∙ reference-bbox-present g b c> r>, same-enclosed (boxOf (cornersBbox g b)) z (boxOf-same (cornersBbox g b) z i))
 
   -- what is reached from a reference's source lies in the source box
   source-box-surrounds : (n : ℕ) (r : PreparedReference) → S .reference n ≡ some r → (s : PreparedSource) → TrueSourceBox S (r .«source_bbox») s → (T : ExactPlacement) (h : Item) → Within s T h

@@ -1,7 +1,7 @@
 -- WHAT EACH EVENT SAYS IS SO: a record lists the item to which its path leads, at its exact placement; what is skipped is measured under one pixel both ways; and only a grid of
--- bare node points meets a limit. One use of the rules' induction, with the way from the root as the tag. True boxes are not needed.
+-- bare node points meets a limit. One use of the rules' induction, with the way from the root as the tag. True boxes are not needed, and zoom only where something is skipped.
 -- Assumes nothing.
-use mathlib.Core.Path.{_≡_, refl, sym, subst}
+use mathlib.Core.Path.{_≡_, refl, subst}
 use mathlib.Core.List.{List, [], _∷_, _++_, append-nil}
 use mathlib.Core.Option.{some}
 use Prim.Native.Nat.{ℕ, suc, _+_, _≤_, _<_}
@@ -23,20 +23,19 @@ use Rattle.exact.specs.Placement.{ExactPlacement, identity, IsPlacement, AtLeve
 use Rattle.exact.specs.Screen.{ZoomWithin}
 use Rattle.exact.proofs.Placements.Levels.{identity-level}
 use Rattle.exact.proofs.Placements.Moving.{identity-exact}
-use Rattle.plan_rules.specs.declared.ScenePlan.{ScenePlan}
-use Rattle.plan_rules.specs.Event.{Event, batch, text, point, proxy, droppedProxy, skippedMember, skippedBatch, culledReference, culledBatch, nodeGridLimit, detailCell, totals, Step, batchAt, textAt, nodeAt, referenceAt, member, pointAt, after}
-use Rattle.plan_rules.specs.World.{Query, World}
+use Rattle.plan_rules.specs.Event.{Event, batch, text, point, proxy, droppedProxy, skippedMember, skippedBatch, culledReference, culledBatch, nodeGridLimit, detailCell, totals, Step, batchAt, textAt, nodeAt, referenceAt, member, pointAt, emptyPlan}
+use Rattle.plan_rules.specs.World.{Query, World, world}
 use Rattle.plan_rules.specs.Plan.{plan}
 use Rattle.plan_rules.specs.Tape.{note}
-use Rattle.plan_rules.proofs.Simulation.{IsNode, the-relation}
-use Rattle.plan_rules.proofs.Simulation.Premises.{Room, Premises}
-use Rattle.plan_rules.proofs.Simulation.Visits.{plan-sim}
+use Rattle.plan_rules.proofs.Simulation.{IsNode}
+use Rattle.plan_rules.proofs.Simulation.Premises.{Premises}
+use Rattle.paths.specs.Square.{Square, FewMembers}
+use Rattle.paths.proofs.Square.{bounds-square, reference-grid}
 use Rattle.cover.specs.Path.{Path, Item, aBatch, aText, aPoint, memberAt, StepLeads, to-batch, to-text, to-node, to-reference, through-member, at-batch, at-text, at-point, LeadsTo, Reaches}
-use Rattle.cover.specs.Square.{Square, FewMembers}
-use Rattle.cover.specs.Trace.{enter, pathOf, All, none-left, and-then, IsRecord, batch-record, text-record, point-record}
+use Rattle.cover.specs.Trace.{enter, pathOf, events, All, IsRecord, batch-record, text-record, point-record}
 use Rattle.cover.specs.Covered.{lists-batch, lists-text, lists-point, IsSkip, member-skip, batch-skip, Skipped, skipped-member, skipped-batch, BareNodeGrid, bare-node-grid, MeetsLimit, meets-limit, ListsItsPath}
-use Rattle.cover.proofs.TagPaths.{Tagged, TagLeads, start, on, tag-reaches, tag-leads}
-use Rattle.cover.proofs.Reading.{bounds-square}
+use Rattle.cover.proofs.TagPaths.{Tagged, TagLeads, start, on, tag-reaches, tag-leads, paths-all, all-map}
+use Rattle.cover.proofs.EveryEvent.{every-event}
 use Rattle.cover.proofs.Exactness.{placed-box, moved-point, member-placed, member-under-one-pixel, batch-under-one-pixel}
 
 module _ (S : Sheet) (q : Query) where
@@ -56,24 +55,24 @@ module _ (S : Sheet) (q : Query) where
   EventFact t (batch n p) = ListsItsPath S q (pathOf t) (batch n p)
   EventFact t (text n v) = ListsItsPath S q (pathOf t) (text n v)
   EventFact t (point l k v) = ListsItsPath S q (pathOf t) (point l k v)
-  EventFact t (proxy l b) = Unit {0}
-  EventFact t (droppedProxy l b) = Unit {0}
-  EventFact t (skippedMember g b) = Skipped S q (pathOf t) (skippedMember g b)
-  EventFact t (skippedBatch b) = Skipped S q (pathOf t) (skippedBatch b)
+  EventFact t (proxy y l b) = Unit {0}
+  EventFact t (droppedProxy y l b) = Unit {0}
+  EventFact t (skippedMember g b) = ZoomWithin (q .zoom) → Skipped S q (pathOf t) (skippedMember g b)
+  EventFact t (skippedBatch b) = ZoomWithin (q .zoom) → Skipped S q (pathOf t) (skippedBatch b)
   EventFact t culledReference = Unit {0}
   EventFact t culledBatch = Unit {0}
   EventFact t nodeGridLimit = LimitAt t
   EventFact t detailCell = Unit {0}
   EventFact t (totals s) = Unit {0}
 
-  pub listed-fact : (t : List Step) (e : Event) → EventFact t e → IsRecord e → ListsItsPath S q (pathOf t) e
+  listed-fact : (t : List Step) (e : Event) → EventFact t e → IsRecord e → ListsItsPath S q (pathOf t) e
   listed-fact t e s batch-record = s
   listed-fact t e s text-record = s
   listed-fact t e s point-record = s
 
-  pub skipped-fact : (t : List Step) (e : Event) → EventFact t e → IsSkip e → Skipped S q (pathOf t) e
-  skipped-fact t e s member-skip = s
-  skipped-fact t e s batch-skip = s
+  pub skipped-fact : ZoomWithin (q .zoom) → (t : List Step) (e : Event) → EventFact t e → IsSkip e → Skipped S q (pathOf t) e
+  skipped-fact zoom t e s member-skip = s zoom
+  skipped-fact zoom t e s batch-skip = s zoom
 
   limit-at : (t : List Step) → LimitAt t → MeetsLimit S q (pathOf t)
   limit-at [] k = absurd k
@@ -87,13 +86,13 @@ module _ (S : Sheet) (q : Query) where
   pub limit-fact : (t : List Step) (e : Event) → EventFact t e → e ≡ nodeGridLimit → MeetsLimit S q (pathOf t)
   limit-fact t e s z = limit-at t (subst (EventFact t) z s)
 
-  module _ (zoom : ZoomWithin (q .zoom)) (few : FewMembers S) (sq : Square S) where
+  module _ (few : FewMembers S) (sq : Square S) where
     -- Where a visit with depth d stands: the tag is a way from the root to the source, the floats are its exact placement, and there is room for d more levels.
     pub record Stands (d : ℕ) (t : List Step) (s : PreparedSource) (p : Placement) : Type 0 where
       pub level : ℕ
       pub exact : ExactPlacement
       pub room : d + level ≤ 48
-      pub led : TagLeads S (q .root) t s exact
+      pub led : TagLeads memberAt S identity (q .root) t s exact
       pub is : IsPlacement p exact
       pub near : AtLevel level exact
 
@@ -106,7 +105,7 @@ module _ (S : Sheet) (q : Query) where
         → Stands d (member x y ∷ t) (r .source) (p · gridMemberTransform (r .grid) x y)
     deeper d t n r x y p h e x< y< =
         let room = h .room in
-        let m = member-placed (h .level) (omega arith) p (h .exact) (h .is) (h .near) (r .grid) (few n r e) (sq .grid n r e) x y x< y< in
+        let m = member-placed (h .level) (omega arith) p (h .exact) (h .is) (h .near) (r .grid) (reference-grid S few sq n r e) x y x< y< in
         record { level = suc (h .level); exact = memberAt (h .exact) r x y; room = omega arith; led = on (h .led) (through-member e x< y<); is = m .0; near = m .1 }
 
     -- ---- events
@@ -116,40 +115,40 @@ module _ (S : Sheet) (q : Query) where
     here-leads t h = subst (λ (p : Path). LeadsTo S (q .root) p h) (append-nil (pathOf t))
 
     batch-listed : (d : ℕ) (t : List Step) (n : ℕ) (g : PreparedGeometry) (p : Placement) → Stands d t (Geometry n) p → S .geometry n ≡ some g → EventFact t (batch n p)
-    batch-listed d t n g p h e = let i = aBatch n g (h .exact) in (i, here-leads t i (tag-leads S (q .root) [] i (h .led) (at-batch e)), lists-batch (h .is))
+    batch-listed d t n g p h e = let i = aBatch n g (h .exact) in (i, here-leads t i (tag-leads [] i (h .led) (at-batch e)), lists-batch (h .is))
 
     text-listed : (d : ℕ) (t : List Step) (n : ℕ) (x : PreparedText) (p : Placement) → Stands d t (Text n) p → S .text n ≡ some x → EventFact t (text n (transformPoint2 p (x .origin)))
     text-listed d t n x p h e =
         let room = h .room in
         let i = aText n x (h .exact) in
-        (i, here-leads t i (tag-leads S (q .root) [] i (h .led) (at-text e)), lists-text (moved-point (h .level) (omega arith) p (h .exact) (h .is) (h .near) (x .origin) (sq .text n x e)))
+        (i, here-leads t i (tag-leads [] i (h .led) (at-text e)), lists-text (moved-point (h .level) (omega arith) p (h .exact) (h .is) (h .near) (x .origin) (sq .text n x e)))
 
     point-listed : (d : ℕ) (t : List Step) (n : ℕ) (x : NodeRecord) (j : ℕ) (p : Placement) → Stands d t (Node n) p → S .node n ≡ some x → j < x .count
         → EventFact (pointAt j ∷ t) (point (x .layer) (x .«node_type») (transformPoint2 p (x .point j)))
     point-listed d t n x j p h e j< =
         let room = h .room in
         let i = aPoint n x j (h .exact) in
-        (i, tag-leads S (q .root) (pointAt j ∷ []) i (h .led) (at-point e j<), lists-point (moved-point (h .level) (omega arith) p (h .exact) (h .is) (h .near) (x .point j) (sq .point n x j e j<)))
+        (i, tag-leads (pointAt j ∷ []) i (h .led) (at-point e j<), lists-point (moved-point (h .level) (omega arith) p (h .exact) (h .is) (h .near) (x .point j) (sq .point n x j e j<)))
 
     member-skipped : (d : ℕ) (t : List Step) (n : ℕ) (r : PreparedReference) (b : WorldBBox) (x y : ℕ) (p : Placement) → Stands d t (Reference n) p → S .reference n ≡ some r → r .«source_bbox» ≡ boxed b
         → x < r .grid .columns → y < r .grid .rows → let z = transformBbox (p · gridMemberTransform (r .grid) x y) b in
         Yes (isSubpixel (referenceScreenSize z (q .zoom) (sourceIsDegenerate b))) → EventFact (member x y ∷ t) (skippedMember (sourceIsDegenerate b) z)
-    member-skipped d t n r b x y p h e eb x< y< k =
+    member-skipped d t n r b x y p h e eb x< y< k zoom =
         let room = h .room in
         let T = h .exact in
         let M = memberAt T r x y in
         let P = p · gridMemberTransform (r .grid) x y in
-        let m = member-placed (h .level) (omega arith) p T (h .is) (h .near) (r .grid) (few n r e) (sq .grid n r e) x y x< y< in
+        let m = member-placed (h .level) (omega arith) p T (h .is) (h .near) (r .grid) (reference-grid S few sq n r e) x y x< y< in
         let s = bounds-square (r .«source_bbox») b eb (sq .source-box n r e) in
         let i = placed-box (suc (h .level)) (omega arith) P M (m .0) (m .1) b s in
-        skipped-member b (tag-reaches S (q .root) (h .led)) e eb x< y< i (member-under-one-pixel (q .zoom) zoom M b s (transformBbox P b) i (sourceIsDegenerate b) k)
+        skipped-member b (tag-reaches (h .led)) e eb x< y< i (member-under-one-pixel (q .zoom) zoom M b s (transformBbox P b) i (sourceIsDegenerate b) k)
 
     batch-skipped : (d : ℕ) (t : List Step) (n : ℕ) (g : PreparedGeometry) (p : Placement) → Stands d t (Geometry n) p → S .geometry n ≡ some g
         → Yes (isSubpixel (screenSize (transformBbox p (g .bbox)) (q .zoom))) → EventFact t (skippedBatch (transformBbox p (g .bbox)))
-    batch-skipped d t n g p h e k =
+    batch-skipped d t n g p h e k zoom =
         let room = h .room in
         let i = placed-box (h .level) (omega arith) p (h .exact) (h .is) (h .near) (g .bbox) (sq .geometry n g e) in
-        skipped-batch (tag-reaches S (q .root) (h .led)) e i (batch-under-one-pixel (q .zoom) zoom (h .exact) (g .bbox) (sq .geometry n g e) (transformBbox p (g .bbox)) i k)
+        skipped-batch (tag-reaches (h .led)) e i (batch-under-one-pixel (q .zoom) zoom (h .exact) (g .bbox) (sq .geometry n g e) (transformBbox p (g .bbox)) i k)
 
     -- only a node's visit halts
     bare : (p : Path) (n : ℕ) (T : ExactPlacement) (r : PreparedReference) → Reaches S (q .root) p (Reference n) T → S .reference n ≡ some r → (s : PreparedSource) → r .source ≡ s → IsNode s → BareNodeGrid S q p r
@@ -169,29 +168,25 @@ module _ (S : Sheet) (q : Query) where
       listed-batch = batch-listed;
       listed-text = text-listed;
       listed-point = point-listed;
-      listed-proxy = λ t l b. tt;
-      dropped-proxy = λ t l b. tt;
+      listed-proxy = λ t y l b. tt;
+      dropped-proxy = λ t y l b. tt;
       skipped-batch = batch-skipped;
       skipped-member = member-skipped;
       culled-reference = λ t. tt;
       culled-batch = λ t. tt;
       detail-cell = λ t. tt;
-      node-grid-limit = λ d t n r x y p h e x< y< k. (r, bare (pathOf t) n (h .exact) r (tag-reaches S (q .root) (h .led)) e (r .source) refl k, x<, y<);
+      node-grid-limit = λ d t n r x y p h e x< y< k. (r, bare (pathOf t) n (h .exact) r (tag-reaches (h .led)) e (r .source) refl k, x<, y<);
     }
 
-    -- ---- the plan; the second run of the induction sends its events nowhere
-
-    abbrev AllSay : ScenePlan → Tagged → Unit {0} → Type 0
-    AllSay s a b = All (λ (x : List Step × Event). EventFact (x .0) (x .1)) a
-
-    abbrev silent : Unit {0} → Event → ℕ → Unit {0} → Unit {0}
-    silent t e at u = tt
-
-    keeps : (ta : List Step) (tb : Unit {0}) (e : Event) → EventFact ta e → (s : ScenePlan) → Room s e → (a : Tagged) (b : Unit {0}) → AllSay s a b → AllSay (after e s) (note ta e (s .«tape_end») a) (silent tb e (s .«tape_end») b)
-    keeps ta tb e ok s room a b r = and-then ok r
+    -- ---- the plan
 
     pub plan-facts : (cells : ℕ) → q .depth ≤ 48 → (w : World Tagged) → w .out ≡ [] → All (λ (x : List Step × Event). EventFact (x .0) (x .1)) ((plan enter note S cells q [] w) .out)
     plan-facts cells d w e =
-        the-relation AllSay (plan-sim enter (λ s t. tt) note silent S cells q AllSay Stands EventFact premises keeps [] tt (λ u. tt)
-        (record { level = 0; exact = identity; room = omega arith; led = start; is = identity-exact; near = identity-level })
-        (w .state) (w .out) tt (w .counts) (w .marks) (subst (λ (l : Tagged). AllSay (w .state) l tt) (sym e) none-left))
+        every-event S q Stands EventFact premises (λ u. tt) (record { level = 0; exact = identity; room = omega arith; led = start; is = identity-exact; near = identity-level }) cells w e
+
+    -- every record of the plan lists its path
+    pub plan-listed : (cells : ℕ) → q .depth ≤ 48 → (counts marks : List ℕ) → All (λ (x : Path × Event). IsRecord (x .1) → ListsItsPath S q (x .0) (x .1)) (events S cells q counts marks)
+    plan-listed cells d counts marks =
+        let begin : World Tagged = world emptyPlan [] counts marks in
+        paths-all (λ (x : Path × Event). IsRecord (x .1) → ListsItsPath S q (x .0) (x .1)) ((plan enter note S cells q [] begin) .out)
+        (all-map _ (λ x s. listed-fact (x .0) (x .1) s) (plan-facts cells d begin refl))

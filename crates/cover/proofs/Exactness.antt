@@ -14,25 +14,23 @@ use Rattle.geometry.specs.Bbox.{transformBbox}
 use Rattle.geometry.specs.Grid.{gridMemberTransform, cornersBbox}
 use Rattle.geometry.specs.Screen.{screenSize, referenceScreenSize, isSubpixel}
 use Rattle.exact.specs.Placement.{ExactPlacement, move, _∘_, IsVector, IsPlacement, vectorOf, AtLevel, deepestLevel}
-use Rattle.exact.specs.Member.{memberPlacement, gridOf}
+use Rattle.exact.specs.Member.{memberPlacement, IsGrid, gridOf}
 use Rattle.exact.specs.Box.{SidesWithin, IsBox, boxOf, place, referenceBox}
 use Rattle.exact.specs.Screen.{ZoomWithin}
-use Rattle.exact.proofs.Integers.Bounds.{within-widen, vector-widen}
+use Rattle.exact.proofs.Integers.Bounds.{vector-widen}
 use Rattle.exact.proofs.Placements.Levels.{level-point-exact, level-member-exact}
-use Rattle.exact.proofs.Boxes.Relations.{box-widen}
+use Rattle.exact.proofs.Boxes.Relations.{box-widen, sides-widen}
 use Rattle.exact.proofs.Boxes.Place.{place-sides}
 use Rattle.exact.proofs.Boxes.Transform.{transform-bbox-exact}
 use Rattle.exact.proofs.Boxes.ReferenceRounded.{placed-corners-bbox-exact}
 use Rattle.exact.proofs.Screen.Sizes.{subpixel-under-one-pixel}
-use Rattle.cover.specs.Square.{SquareVector, SquareBox, SquareGrid}
+use Rattle.paths.specs.Square.{SquareVector, SquareBox}
+use Rattle.paths.proofs.Square.{vector-is, vector-within, box-is, box-within}
 use Rattle.cover.specs.Covered.{UnderOnePixel}
-use Rattle.cover.proofs.Reading.{vector-is, vector-within, box-is, box-within, grid-is}
 
 -- a box of a square sheet keeps its sides when it is placed
 sides : (T : ExactPlacement) (b : WorldBBox) → SquareBox b → SidesWithin (2 ^ 53) (place T (boxOf b))
-sides T b h =
-    let s = place-sides T (boxOf b) (2 ^ 31) (box-within b h) in
-    record { width = within-widen (2 ^ 31 + 2 ^ 31) (2 ^ 53) _ (omega arith) (s .width); height = within-widen (2 ^ 31 + 2 ^ 31) (2 ^ 53) _ (omega arith) (s .height) }
+sides T b h = sides-widen (2 ^ 31 + 2 ^ 31) (2 ^ 53) (place T (boxOf b)) (omega arith) (place-sides T (boxOf b) (2 ^ 31) (box-within b h))
 
 module _ (n : ℕ) (n≤ : n ≤ deepestLevel) (p : Placement) (T : ExactPlacement) (i : IsPlacement p T) (level : AtLevel n T) where
   pub placed-box : (b : WorldBBox) → SquareBox b → IsBox (transformBbox p b) (place T (boxOf b))
@@ -41,16 +39,16 @@ module _ (n : ℕ) (n≤ : n ≤ deepestLevel) (p : Placement) (T : ExactPlaceme
   pub moved-point : (v : DVec2) → SquareVector v → IsVector (transformPoint2 p v) (move T (vectorOf v))
   moved-point v h = level-point-exact n n≤ p T i level v (vectorOf v) (vector-is v h) (vector-widen (2 ^ 31) (2 ^ 48) (vectorOf v) (omega arith) (vector-within v h))
 
-  module _ (g : Grid) (few : (g .columns ≤ 32767) × (g .rows ≤ 32767)) (h : SquareGrid g) where
+  module _ (g : Grid) (is : IsGrid g (gridOf g)) where
     pub member-placed : (column row : ℕ) → column < g .columns → row < g .rows
         → IsPlacement (p · gridMemberTransform g column row) (T ∘ memberPlacement (gridOf g) column row) × AtLevel (suc n) (T ∘ memberPlacement (gridOf g) column row)
     member-placed column row c< r< =
-        let c≤ : column ≤ 32767 = omega (arith, few .0) in
-        let r≤ : row ≤ 32767 = omega (arith, few .1) in
-        level-member-exact n n≤ p T i level g (gridOf g) column row (grid-is g few h) c≤ r≤
+        let c≤ : column ≤ 32767 = omega (arith, is .columns) in
+        let r≤ : row ≤ 32767 = omega (arith, is .rows) in
+        level-member-exact n n≤ p T i level g (gridOf g) column row is c≤ r≤
 
     pub corners-placed : (b : WorldBBox) → SquareBox b → IsBox (transformBbox p (cornersBbox g b)) (place T (referenceBox (gridOf g) (g .columns) (g .rows) (boxOf b)))
-    corners-placed b s = placed-corners-bbox-exact g (gridOf g) (grid-is g few h) b (boxOf b) (box-is b s) (s .proper) (box-within b s) n n≤ p T i level
+    corners-placed b s = placed-corners-bbox-exact g (gridOf g) is b (boxOf b) (box-is b s) (s .proper) (box-within b s) n n≤ p T i level
 
 -- ---- what the rules skip: on a square sheet no size is infinite, for zoom up to 2^64
 

@@ -9,7 +9,7 @@ use lib.Dec.{leb, leb→le, nleb→lt}
 use lib.Dec.{T as Yes}
 use Rattle.plan_rules.specs.World.{World, Flow, go, halt, bind, ending, each}
 
-pub at-or-below : (i a : ℕ) → i ≤ a → (i ≡ a) ⊎ (i < a)
+at-or-below : (i a : ℕ) → i ≤ a → (i ≡ a) ⊎ (i < a)
 at-or-below i a h = by (leb (suc i) a) (leb→le (suc i) a) (nleb→lt (suc i) a)
   where
     by : (b : Bool) → (Yes b → suc i ≤ a) → (Yes (not b) → a < suc i) → (i ≡ a) ⊎ (i < a)
@@ -28,19 +28,19 @@ module _ {A : Type 0} (Q : World A → Type 0) where
   abbrev pub Keeps : (World A → Flow A) → Type 0
   Keeps f = (w : World A) → Q w → Q (ending (f w))
 
-  pub goes-of : (x : Flow A) → Q (ending x) → OnGo x
+  goes-of : (x : Flow A) → Q (ending x) → OnGo x
   goes-of (go w) h = h
   goes-of (halt w) h = tt
 
-  pub bind-keeps : (x : Flow A) (f : World A → Flow A) → Q (ending x) → Keeps f → Q (ending (bind x f))
+  bind-keeps : (x : Flow A) (f : World A → Flow A) → Q (ending x) → Keeps f → Q (ending (bind x f))
   bind-keeps (go w) f h k = k w h
   bind-keeps (halt w) f h k = h
 
-  pub bind-after : (x : Flow A) (f : World A → Flow A) → OnHalt x → ((w : World A) → Q (ending (f w))) → Q (ending (bind x f))
+  bind-after : (x : Flow A) (f : World A → Flow A) → OnHalt x → ((w : World A) → Q (ending (f w))) → Q (ending (bind x f))
   bind-after (go w) f h k = k w
   bind-after (halt w) f h k = h
 
-  pub bind-halts : (x : Flow A) (f : World A → Flow A) → OnHalt x → ((w : World A) → OnHalt (f w)) → OnHalt (bind x f)
+  bind-halts : (x : Flow A) (f : World A → Flow A) → OnHalt x → ((w : World A) → OnHalt (f w)) → OnHalt (bind x f)
   bind-halts (go w) f h k = k w
   bind-halts (halt w) f h k = h
 

@@ -6,7 +6,7 @@ use mathlib.Core.Path.{_≡_, refl, sym, ap, _∙_, subst}
 use mathlib.Core.Logic.{_⊎_, inl, inr}
 use mathlib.Core.Bool.{Bool, false}
 use mathlib.Core.List.{List, [], _∷_}
-use Prim.Native.Nat.{ℕ, _+_, _≤_, _<_}
+use Prim.Native.Nat.{ℕ, _+_, _≤_}
 use native.Mathlib.Omega.{arith}
 use lib.ListN.{length, replicate}
 use lib.IntN.{negsuc}
@@ -22,11 +22,12 @@ use Rattle.exact.specs.Placement.{ExactPlacement, identity}
 use Rattle.exact.specs.Box.{IntegerBox, Holds, IsBox, boxOf}
 use Rattle.exact.specs.Screen.{isUnderOnePixel}
 use Rattle.exact.proofs.Floats.Reading.{integerOf-same}
+use Rattle.plan_rules.specs.declared.Reason.the-variants as reason
 use Rattle.plan_rules.specs.Event.{Event, batch, text, point, proxy, droppedProxy, skippedMember, skippedBatch, culledReference, culledBatch, nodeGridLimit, detailCell, totals, batchAt, textAt, referenceAt, member, pointAt, emptyPlan}
 use Rattle.plan_rules.specs.World.{Query}
 use Rattle.plan_rules.specs.Outcome.{Outcome}
 use Rattle.plan_rules.proofs.Cases.Opened.{opened}
-use Rattle.plan_rules.proofs.Cases.Samples.{whole, spot, page, sheetOfLists, batchOf, textAtSpot, nodeOf, refer, cellOf, viewing}
+use Rattle.plan_rules.specs.Samples.{whole, spot, page, sheetOfLists, batchOf, textAtSpot, nodeOf, refer, cellOf, viewing}
 use Rattle.cover.specs.Path.{Path, Item, aBatch, aText, aPoint, memberAt, to-batch, to-text, to-reference, through-member, at-batch, at-text, step, LeadsTo, Reaches, at-root, further}
 use Rattle.cover.specs.View.{textPosition, WithinBox, InView}
 use Rattle.cover.specs.Trace.{Trace, events, All, and-then, Any, here, before, text-record}
@@ -34,40 +35,40 @@ use Rattle.geometry.specs.Bbox.{sourceIsDegenerate}
 use Rattle.geometry.specs.Screen.{screenSize}
 use Rattle.cover.specs.Covered.{UnderOnePixel, Lists, lists-batch, lists-text, lists-point, IsSkip, batch-skip, Skipped, skipped-member, skipped-batch, BareNodeGrid, bare-node-grid, MeetsLimit, meets-limit, Covers, Covered, listed, within-proxy, within-dropped-proxy, in-skipped, follows}
 use Rattle.cover.specs.Demand3.{LosesNothing, eventsOf, IsTape}
-use Rattle.cover.proofs.Examples.Lists.{whole-same, box, box-holds, withoutTotals}
+use Rattle.cover.proofs.Examples.Boxes.{whole-same, box, box-holds, withoutTotals}
 
 -- ---- how an event covers a path, by the event
 
 module _ (S : Sheet) (q : Query) where
-  abbrev Reason : Path → Item → Path → Event → Type 0
-  Reason p h place (batch n m) = (p ≡ place) × Lists h (batch n m)
-  Reason p h place (text n v) = (p ≡ place) × Lists h (text n v)
-  Reason p h place (point l k v) = (p ≡ place) × Lists h (point l k v)
-  Reason p h place (proxy l b) = (z : IntegerBox) × IsBox b z × WithinBox h z
-  Reason p h place (droppedProxy l b) = (z : IntegerBox) × IsBox b z × WithinBox h z
-  Reason p h place (skippedMember g b) = Skipped S q place (skippedMember g b)
-  Reason p h place (skippedBatch b) = Skipped S q place (skippedBatch b)
-  Reason p h place culledReference = ⊥
-  Reason p h place culledBatch = ⊥
-  Reason p h place nodeGridLimit = Unit {0}
-  Reason p h place detailCell = ⊥
-  Reason p h place (totals s) = ⊥
+  abbrev CoverOf : Path → Item → Path → Event → Type 0
+  CoverOf p h place (batch n m) = (p ≡ place) × Lists h (batch n m)
+  CoverOf p h place (text n v) = (p ≡ place) × Lists h (text n v)
+  CoverOf p h place (point l k v) = (p ≡ place) × Lists h (point l k v)
+  CoverOf p h place (proxy y l b) = (z : IntegerBox) × IsBox b z × WithinBox h z
+  CoverOf p h place (droppedProxy y l b) = (z : IntegerBox) × IsBox b z × WithinBox h z
+  CoverOf p h place (skippedMember g b) = Skipped S q place (skippedMember g b)
+  CoverOf p h place (skippedBatch b) = Skipped S q place (skippedBatch b)
+  CoverOf p h place culledReference = ⊥
+  CoverOf p h place culledBatch = ⊥
+  CoverOf p h place nodeGridLimit = Unit {0}
+  CoverOf p h place detailCell = ⊥
+  CoverOf p h place (totals s) = ⊥
 
-  listed-reason : (p : Path) (h : Item) (e : Event) → Lists h e → Reason p h p e
-  listed-reason p h e (lists-batch i) = (refl, lists-batch i)
-  listed-reason p h e (lists-text i) = (refl, lists-text i)
-  listed-reason p h e (lists-point i) = (refl, lists-point i)
+  listed-cover : (p : Path) (h : Item) (e : Event) → Lists h e → CoverOf p h p e
+  listed-cover p h e (lists-batch i) = (refl, lists-batch i)
+  listed-cover p h e (lists-text i) = (refl, lists-text i)
+  listed-cover p h e (lists-point i) = (refl, lists-point i)
 
-  skipped-reason : (p : Path) (h : Item) (place : Path) (e : Event) → Skipped S q place e → Reason p h place e
-  skipped-reason p h place e (skipped-member b r f eb c< r< i u) = skipped-member b r f eb c< r< i u
-  skipped-reason p h place e (skipped-batch r f i u) = skipped-batch r f i u
+  skipped-cover : (p : Path) (h : Item) (place : Path) (e : Event) → Skipped S q place e → CoverOf p h place e
+  skipped-cover p h place e (skipped-member b r f eb c< r< i u) = skipped-member b r f eb c< r< i u
+  skipped-cover p h place e (skipped-batch r f i u) = skipped-batch r f i u
 
-  reason : {p : Path} {h : Item} {place : Path} {e : Event} → Covers S q p h place e → Reason p h place e
-  reason {p = p} {h = h} {e = e} (listed l) = listed-reason p h e l
-  reason (within-proxy {z = z} i w) = (z, i, w)
-  reason (within-dropped-proxy {z = z} i w) = (z, i, w)
-  reason {p = p} {h = h} {place = place} {e = e} (in-skipped r s z) = skipped-reason p h place e s
-  reason (follows x y r g late z) = tt
+  cover-of : {p : Path} {h : Item} {place : Path} {e : Event} → Covers S q p h place e → CoverOf p h place e
+  cover-of {p = p} {h = h} {e = e} (listed l) = listed-cover p h e l
+  cover-of (within-proxy {z = z} i w) = (z, i, w)
+  cover-of (within-dropped-proxy {z = z} i w) = (z, i, w)
+  cover-of {p = p} {h = h} {place = place} {e = e} (in-skipped r s z) = skipped-cover p h place e s
+  cover-of (follows x y r g late z) = tt
 
 -- ---- one text: document 01's worked sheet
 
@@ -107,7 +108,7 @@ Lost limit trace = LosesNothing labelled (see limit) trace → ⊥
 
 -- what the rules leave where no object may be listed: the cell's box
 limit-plan : events labelled 1 (see 0) (replicate 1 0) (replicate 3 0) ≡ ([], totals (record { «tape_end» = 42; texts = 0; «load_proxies» = 1; «detail_cells» = 0; «detail_objects» = 0; «culled_references» = 0; «skipped_subpixel_references» = 0; «culled_geometry_batches» = 0; «skipped_subpixel_geometry_batches» = 0 }))
-    ∷ ([], proxy 0 (page 100 100)) ∷ []
+    ∷ ([], proxy reason.OtherLimit 0 (page 100 100)) ∷ []
 unfolding opened
 limit-plan = refl
 
@@ -116,11 +117,11 @@ load-left-out : Lost 0 (([], totals emptyPlan) ∷ [])
 load-left-out l = by (l .covered labelPath (aText 0 label identity) leads seen tt)
   where
     by : Any (λ (x : Path × Event). Covers labelled (see 0) labelPath (aText 0 label identity) (x .0) (x .1)) (([], totals emptyPlan) ∷ []) → ⊥
-    by (here c) = reason labelled (see 0) c
+    by (here c) = cover-of labelled (see 0) c
     by (before a) = elim a [ ]
 
 -- a box that does not hold the text
-wrong-box : Lost 0 (([], totals emptyPlan) ∷ ([], proxy 0 (page 15 15)) ∷ [])
+wrong-box : Lost 0 (([], totals emptyPlan) ∷ ([], proxy reason.OtherLimit 0 (page 15 15)) ∷ [])
 wrong-box l = by (l .covered labelPath (aText 0 label identity) leads seen tt)
   where
     outside : (z : IntegerBox) → IsBox (page 15 15) z → Holds z (textPosition label identity) → ⊥
@@ -132,9 +133,9 @@ wrong-box l = by (l .covered labelPath (aText 0 label identity) leads seen tt)
         let y : ⊥ = omega arith in
         y
 
-    by : Any (λ (x : Path × Event). Covers labelled (see 0) labelPath (aText 0 label identity) (x .0) (x .1)) (([], totals emptyPlan) ∷ ([], proxy 0 (page 15 15)) ∷ []) → ⊥
-    by (here c) = reason labelled (see 0) c
-    by (before (here c)) = let k = reason labelled (see 0) c in outside (k .0) (k .1) (k .2)
+    by : Any (λ (x : Path × Event). Covers labelled (see 0) labelPath (aText 0 label identity) (x .0) (x .1)) (([], totals emptyPlan) ∷ ([], proxy reason.OtherLimit 0 (page 15 15)) ∷ []) → ⊥
+    by (here c) = cover-of labelled (see 0) c
+    by (before (here c)) = let k = cover-of labelled (see 0) c in outside (k .0) (k .1) (k .2)
     by (before (before a)) = elim a [ ]
 
 -- a path listed twice
@@ -142,8 +143,8 @@ twice : Lost 20000 ((labelPath, text 0 (spot 10 20)) ∷ (labelPath, text 0 (spo
 twice l = l .once .0 text-record (here (text-record, refl))
 
 -- a proxy dropped before 100,000 are listed
-dropped-early : Lost 0 (([], droppedProxy 0 (page 100 100)) ∷ [])
-dropped-early l = let e = l .dropped .0 0 (page 100 100) refl in let y : ⊥ = omega arith in y
+dropped-early : Lost 0 (([], droppedProxy reason.OtherLimit 0 (page 100 100)) ∷ [])
+dropped-early l = let e = l .dropped .0 reason.OtherLimit 0 (page 100 100) refl in let y : ⊥ = omega arith in y
 
 -- ---- one batch, 1 wide and 100 high
 
@@ -201,8 +202,8 @@ wrong-edge : LosesNothing striped half ((batchAt 0 ∷ [], culledBatch) ∷ ([],
 wrong-edge l = by (l .covered (batchAt 0 ∷ []) (aBatch 0 strip identity) strip-leads strip-seen tt)
   where
     by : Any (λ (x : Path × Event). Covers striped half (batchAt 0 ∷ []) (aBatch 0 strip identity) (x .0) (x .1)) ((batchAt 0 ∷ [], culledBatch) ∷ ([], detailCell) ∷ []) → ⊥
-    by (here c) = reason striped half c
-    by (before (here c)) = reason striped half c
+    by (here c) = cover-of striped half c
+    by (before (here c)) = cover-of striped half c
     by (before (before a)) = elim a [ ]
 
 -- ---- a circle: cell 0 holds the text and itself
@@ -235,7 +236,7 @@ round-seen = record { left = omega arith; right = omega arith; bottom = omega ar
 
 -- the rules end the circle in a proxy
 circle-plan : withoutTotals (events circular 1 deep (replicate 3 0) (replicate 5 0))
-    ≡ (referenceAt 0 ∷ member 0 0 ∷ [], proxy 0 (page 100 100)) ∷ (textAt 0 ∷ [], text 0 (spot 10 20)) ∷ ([], detailCell) ∷ []
+    ≡ (referenceAt 0 ∷ member 0 0 ∷ [], proxy reason.Circle 0 (page 100 100)) ∷ (textAt 0 ∷ [], text 0 (spot 10 20)) ∷ ([], detailCell) ∷ []
 unfolding opened
 circle-plan = refl
 
@@ -250,8 +251,8 @@ unfolding steps
 skipped-at-circle l = by (l .covered roundPath (aText 0 label once) round-leads round-seen tt)
   where
     by : Any (λ (x : Path × Event). Covers circular deep roundPath (aText 0 label once) (x .0) (x .1)) ((textAt 0 ∷ [], text 0 (spot 10 20)) ∷ ([], detailCell) ∷ []) → ⊥
-    by (here c) = let k = ap steps ((reason circular deep c) .0) in let y : ⊥ = omega arith in y
-    by (before (here c)) = reason circular deep c
+    by (here c) = let k = ap steps ((cover-of circular deep c) .0) in let y : ⊥ = omega arith in y
+    by (before (here c)) = cover-of circular deep c
     by (before (before a)) = elim a [ ]
 
 -- ---- a grid of two bare nodes, each with one point

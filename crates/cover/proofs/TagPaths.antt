@@ -5,11 +5,11 @@ use mathlib.Core.List.{List, [], _∷_, _++_, append-assoc, append-nil}
 use Prim.Native.Nat.{ℕ, _+_}
 use Rattle.records.specs.declared.PreparedSource.{PreparedSource}
 use Rattle.records.specs.declared.PreparedSource.the-variants.{Cell}
+use Rattle.records.specs.declared.PreparedReference.{PreparedReference}
 use Rattle.abstract_sheet.specs.Sheet.{Sheet}
-use Rattle.exact.specs.Placement.{ExactPlacement, identity}
-use Rattle.plan_rules.specs.Event.{Event, Step, amounts}
-use Rattle.plan_rules.specs.Tape.{encode, tape}
-use Rattle.cover.specs.Path.{Path, Item, StepLeads, Leads, step, LeadsTo, Reaches, at-root, further}
+use Rattle.plan_rules.specs.Event.{Event, Step, encode, amounts}
+use Rattle.plan_rules.specs.Tape.{tape}
+use Rattle.paths.specs.Path.{Path, Item, StepLeads, Leads, step, LeadsTo, Reaches, at-root, further}
 use Rattle.cover.specs.Trace.{pathOf, withPaths, All, none-left, and-then, Any, here, before, listedProxies}
 
 -- every event with its tag, the newest first
@@ -50,22 +50,24 @@ path-injective t u e = sym (turn-path t) ∙ ap (λ (p : Path). turn p []) e ∙
 
 -- ---- where a tag leads
 
-module _ (S : Sheet) (root : ℕ) where
-  pub data TagLeads : List Step → PreparedSource → ExactPlacement → Type 0 where
-    start : TagLeads [] (Cell root) identity
-    on : {t : List Step} {s u : PreparedSource} {T U : ExactPlacement} {k : Step} → TagLeads t s T → StepLeads S s T k u U → TagLeads (k ∷ t) u U
+-- at placements of any kind, as `paths`
+module _ {P : Type 0} (memberAt : P → PreparedReference → ℕ → ℕ → P) (S : Sheet) (origin : P) (root : ℕ) where
+  pub data TagLeads : List Step → PreparedSource → P → Type 0 where
+    start : TagLeads [] (Cell root) origin
+    on : {t : List Step} {s u : PreparedSource} {T U : P} {k : Step} → TagLeads t s T → StepLeads memberAt S s T k u U → TagLeads (k ∷ t) u U
 
-  pub tag-reaches : {t : List Step} {s : PreparedSource} {T : ExactPlacement} → TagLeads t s T → Reaches S root (pathOf t) s T
+module _ {P : Type 0} {memberAt : P → PreparedReference → ℕ → ℕ → P} {S : Sheet} {origin : P} {root : ℕ} where
+  pub tag-reaches : {t : List Step} {s : PreparedSource} {T : P} → TagLeads memberAt S origin root t s T → Reaches memberAt S origin root (pathOf t) s T
   tag-reaches start = at-root
   tag-reaches (on w k) = further (tag-reaches w) k
 
   -- the way from the root and a path from there are a path from the root
-  tag-leads-back : {t : List Step} {s : PreparedSource} {T : ExactPlacement} (p : Path) (h : Item) → TagLeads t s T → Leads S s T p h → LeadsTo S root (back t p) h
+  tag-leads-back : {t : List Step} {s : PreparedSource} {T : P} (p : Path) (h : Item P) → TagLeads memberAt S origin root t s T → Leads memberAt S s T p h → LeadsTo memberAt S origin root (back t p) h
   tag-leads-back p h start l = l
   tag-leads-back p h (on {k = k} w o) l = tag-leads-back (k ∷ p) h w (step o l)
 
-  pub tag-leads : {t : List Step} {s : PreparedSource} {T : ExactPlacement} (p : Path) (h : Item) → TagLeads t s T → Leads S s T p h → LeadsTo S root (pathOf t ++ p) h
-  tag-leads {t = t} p h w l = subst (λ (r : Path). LeadsTo S root r h) (back-path t p) (tag-leads-back p h w l)
+  pub tag-leads : {t : List Step} {s : PreparedSource} {T : P} (p : Path) (h : Item P) → TagLeads memberAt S origin root t s T → Leads memberAt S s T p h → LeadsTo memberAt S origin root (pathOf t ++ p) h
+  tag-leads {t = t} p h w l = subst (λ (r : Path). LeadsTo memberAt S origin root r h) (back-path t p) (tag-leads-back p h w l)
 
 -- ---- events with their tags, and with their paths
 

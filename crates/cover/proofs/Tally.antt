@@ -10,6 +10,7 @@ use Rattle.geometry.specs.declared.bbox.WorldBBox.{WorldBBox}
 use Rattle.abstract_sheet.specs.Sheet.{Sheet}
 use Rattle.plan_rules.specs.declared.ScenePlan.{ScenePlan}
 use Rattle.plan_rules.specs.Limits.{maxLoadProxies}
+use Rattle.plan_rules.specs.declared.Reason.{Reason}
 use Rattle.plan_rules.specs.Event.{Event, batch, text, point, proxy, droppedProxy, skippedMember, skippedBatch, culledReference, culledBatch, nodeGridLimit, detailCell, totals, Step, saturate, _⊞_, emptyPlan, amounts, after}
 use Rattle.plan_rules.specs.World.{Query, world}
 use Rattle.plan_rules.specs.Plan.{plan}
@@ -23,7 +24,7 @@ use Rattle.cover.proofs.TagPaths.{Tagged, paths-proxies}
 -- with tags in place of paths
 abbrev pub TaggedDroppedWhenFull : Tagged → Type 0
 TaggedDroppedWhenFull [] = Unit {0}
-TaggedDroppedWhenFull (x ∷ l) = ((label : ℕ) (box : WorldBBox) → x .1 ≡ droppedProxy label box → listedProxies l ≡ maxLoadProxies) × TaggedDroppedWhenFull l
+TaggedDroppedWhenFull (x ∷ l) = ((why : Reason) (label : ℕ) (box : WorldBBox) → x .1 ≡ droppedProxy why label box → listedProxies l ≡ maxLoadProxies) × TaggedDroppedWhenFull l
 
 pub record Tally (s : ScenePlan) (l : Tagged) : Type 0 where
   pub proxies : s .«load_proxies» ≡ listedProxies l
@@ -35,8 +36,8 @@ droppedIn : Event → ℕ
 droppedIn (batch n p) = 0
 droppedIn (text n v) = 0
 droppedIn (point l k v) = 0
-droppedIn (proxy l b) = 0
-droppedIn (droppedProxy l b) = 1
+droppedIn (proxy y l b) = 0
+droppedIn (droppedProxy y l b) = 1
 droppedIn (skippedMember g b) = 0
 droppedIn (skippedBatch b) = 0
 droppedIn culledReference = 0
@@ -55,7 +56,7 @@ other t e s l z d h =
     record {
       proxies = same ∙ p ∙ sym (zero-add (listedProxies l)) ∙ ap (λ (n : ℕ). n + listedProxies l) (sym z);
       most = subst (λ (n : ℕ). n ≤ maxLoadProxies) (sym same) m;
-      full = (λ label box eq. absurd (let k : droppedIn e ≡ 1 = ap droppedIn eq in let y : ⊥ = omega arith in y), h .full);
+      full = (λ why label box eq. absurd (let k : droppedIn e ≡ 1 = ap droppedIn eq in let z : ⊥ = omega arith in z), h .full);
     }
 
 one-more : (p t : ℕ) → p < maxLoadProxies → p ≡ t → p ⊞ 1 ≡ 1 + t
@@ -71,18 +72,18 @@ unfolding after _⊞_ droppedIn
 keeps t (batch n p) s room l h = other t (batch n p) s l refl refl h
 keeps t (text n v) s room l h = other t (text n v) s l refl refl h
 keeps t (point a k v) s room l h = other t (point a k v) s l refl refl h
-keeps t (proxy a b) s room l h =
+keeps t (proxy y a b) s room l h =
     let r = ltb→lt (s .«load_proxies») maxLoadProxies room in
     record {
       proxies = one-more (s .«load_proxies») (listedProxies l) r (h .proxies);
       most = one-more-most (s .«load_proxies») r;
-      full = (λ label box eq. absurd (let k : droppedIn (proxy a b) ≡ 1 = ap droppedIn eq in let y : ⊥ = omega arith in y), h .full);
+      full = (λ why label box eq. absurd (let k : droppedIn (proxy y a b) ≡ 1 = ap droppedIn eq in let z : ⊥ = omega arith in z), h .full);
     }
-keeps t (droppedProxy a b) s room l h =
+keeps t (droppedProxy y a b) s room l h =
     let r = nltb→le (s .«load_proxies») maxLoadProxies room in
     let m = h .most in
     let p = h .proxies in
-    record { proxies = omega arith; most = m; full = (λ label box eq. omega arith, h .full) }
+    record { proxies = omega arith; most = m; full = (λ why label box eq. omega arith, h .full) }
 keeps t (skippedMember g b) s room l h = other t (skippedMember g b) s l refl refl h
 keeps t (skippedBatch b) s room l h = other t (skippedBatch b) s l refl refl h
 keeps t culledReference s room l h = other t culledReference s l refl refl h
@@ -99,7 +100,7 @@ plan-tally S cells q k m = plan-kept enter note S cells q Tally keeps [] (world 
 
 with-paths : (l : Tagged) → TaggedDroppedWhenFull l → DroppedWhenFull (withPaths l)
 with-paths [] h = tt
-with-paths (x ∷ l) h = (λ label box e. paths-proxies l ∙ h .0 label box e, with-paths l (h .1))
+with-paths (x ∷ l) h = (λ why label box e. paths-proxies l ∙ h .0 why label box e, with-paths l (h .1))
 
 pub plan-drops-when-full : (S : Sheet) (cells : ℕ) (q : Query) (k m : List ℕ) → DroppedWhenFull (withPaths ((plan enter note S cells q [] (world emptyPlan [] k m)) .out))
 plan-drops-when-full S cells q k m = with-paths ((plan enter note S cells q [] (world emptyPlan [] k m)) .out) ((plan-tally S cells q k m) .full)

@@ -6,7 +6,9 @@ use Prim.Native.Nat.{ℕ, _<_}
 use lib.Dec.{leb, eqb, eqb→eq, nleb→lt}
 use lib.Dec.{T as Yes}
 use lib.Ieee.{Float}
-use Rattle.geometry.specs.Screen.{shouldCollapseReference}
+use Rattle.geometry.specs.declared.screen.CollapseTest.{CollapseTest}
+use Rattle.geometry.specs.declared.screen.CollapseTest.the-variants as test
+use Rattle.geometry.specs.Screen.{collapseTest, collapses}
 use Rattle.plan_rules.specs.World.{contains}
 use Rattle.cover.specs.View.{Lacks}
 
@@ -29,10 +31,10 @@ lacks-not-contains (x ∷ l) key h t = by (eqb x key) (eqb→eq x key) (lacks-no
     by false e f t = f t
 
 -- what is not collapsed is above depth 1
-pub collapses-at-depth-1 : (width height : Float) (members units depth : ℕ) → Yes (not (shouldCollapseReference width height members units depth false)) → 1 < depth
-unfolding shouldCollapseReference
+pub collapses-at-depth-1 : (width height : Float) (members units depth : ℕ) → Yes (not (collapses (collapseTest width height members units depth false))) → 1 < depth
+unfolding collapseTest
 collapses-at-depth-1 width height members units depth y = by (leb depth 1) (nleb→lt depth 1) _ y
   where
-    by : (b : Bool) → (Yes (not b) → 1 < depth) → (c : Bool) → Yes (not (cond b true c)) → 1 < depth
+    by : (b : Bool) → (Yes (not b) → 1 < depth) → (c : CollapseTest) → Yes (not (collapses (cond b test.Depth c))) → 1 < depth
     by true f c t = absurd t
     by false f c t = f tt

@@ -23,6 +23,7 @@ use Rattle.exact.specs.Placement.{ExactPlacement, IsVector, IsPlacement}
 use Rattle.exact.specs.Box.{IntegerBox, IsBox, boxOf, place}
 use Rattle.exact.specs.Screen.{isUnderOnePixel}
 use Rattle.plan_rules.specs.Limits.{maxLoadProxies}
+use Rattle.plan_rules.specs.declared.Reason.{Reason}
 use Rattle.plan_rules.specs.Event.{Event, batch, text, point, proxy, droppedProxy, skippedMember, skippedBatch, nodeGridLimit, member}
 use Rattle.plan_rules.specs.World.{Query}
 use Rattle.cover.specs.Path.{Path, Item, aBatch, aText, aPoint, memberAt, Reaches, LeadsTo}
@@ -48,7 +49,7 @@ NoPathTwice (x ∷ l) = (IsRecord (x .1) → Any (λ (y : Path × Event). IsReco
 -- "A dropped proxy is one that the rules call for when the plan has listed 100,000; its box is the one it would have had."
 abbrev pub DroppedWhenFull : Trace → Type 0
 DroppedWhenFull [] = Unit {0}
-DroppedWhenFull (x ∷ l) = ((label : ℕ) (box : WorldBBox) → x .1 ≡ droppedProxy label box → listedProxies l ≡ maxLoadProxies) × DroppedWhenFull l
+DroppedWhenFull (x ∷ l) = ((why : Reason) (label : ℕ) (box : WorldBBox) → x .1 ≡ droppedProxy why label box → listedProxies l ≡ maxLoadProxies) × DroppedWhenFull l
 
 -- ---- skipped
 
@@ -91,8 +92,8 @@ module _ (S : Sheet) (q : Query) where
   -- what an event, at the path where it happened, does for a path p to the item h
   pub data Covers (p : Path) (h : Item) : Path → Event → Type 0 where
     listed : {e : Event} → Lists h e → Covers p h p e
-    within-proxy : {place : Path} {label : ℕ} {box : WorldBBox} {z : IntegerBox} → IsBox box z → WithinBox h z → Covers p h place (proxy label box)
-    within-dropped-proxy : {place : Path} {label : ℕ} {box : WorldBBox} {z : IntegerBox} → IsBox box z → WithinBox h z → Covers p h place (droppedProxy label box)
+    within-proxy : {place : Path} {why : Reason} {label : ℕ} {box : WorldBBox} {z : IntegerBox} → IsBox box z → WithinBox h z → Covers p h place (proxy why label box)
+    within-dropped-proxy : {place : Path} {why : Reason} {label : ℕ} {box : WorldBBox} {z : IntegerBox} → IsBox box z → WithinBox h z → Covers p h place (droppedProxy why label box)
     -- "A path lies in something skipped if it leads through a member, or to a batch" that is skipped
     in-skipped : {place : Path} {e : Event} (rest : Path) → Skipped place e → p ≡ place ++ rest → Covers p h place e
     -- "paths through its later members, in the rules' order, follow"

@@ -19,9 +19,9 @@ use Rattle.plan_rules.specs.World.{Query}
 use Rattle.plan_rules.specs.Scratch.{countsNamed, marksNamed}
 use Rattle.plan_rules.specs.Tape.{tape}
 use Rattle.plan_rules.specs.Outcome.{Outcome, outcomeOf}
+use Rattle.paths.specs.Square.{Square, FewMembers}
+use Rattle.paths.specs.TrueBoxes.{TrueBoxes}
 use Rattle.cover.specs.Path.{Path, Item, LeadsTo}
-use Rattle.cover.specs.Square.{Square, FewMembers}
-use Rattle.cover.specs.TrueBoxes.{TrueBoxes}
 use Rattle.cover.specs.View.{WholeView, InView, Shown}
 use Rattle.cover.specs.Trace.{Trace, events, All, IsRecord}
 use Rattle.cover.specs.Covered.{NoPathTwice, DroppedWhenFull, Covered, ListsItsPath, IsSkip, Skipped, MeetsLimit}

@@ -3,13 +3,14 @@
 use mathlib.Core.Path.{_≡_, refl, subst}
 use mathlib.Core.Logic.{inl}
 use mathlib.Core.Bool.{true, false}
+use mathlib.Core.List.{[], _∷_}
 use Prim.Native.Nat.{ℕ, _+_, _*_, _^_}
 use native.Mathlib.Omega.{arith}
 use lib.IntN.{pos}
 use lib.Ieee.{Float, fin, binary64, neg, add, ofInt}
 use Rattle.geometry.specs.declared.placement.DVec2.{DVec2}
 use Rattle.geometry.specs.declared.grid.Grid.{Grid}
-use Rattle.geometry.specs.Placement.{vec, fromCols, zeroFloat, oneFloat, transformPoint2}
+use Rattle.geometry.specs.Placement.{vec, fromCols, zeroFloat, oneFloat, transformPoint2, _·_}
 use Rattle.geometry.specs.Bbox.{bbox, boxed}
 use Rattle.geometry.proofs.Opened.{opened}
 use Rattle.geometry.specs.Grid.{gridMemberTransform, referenceBbox}
@@ -17,7 +18,7 @@ use Rattle.exact.specs.Integer.{integer}
 use Rattle.exact.specs.IsInteger.{IsInteger, exactUpTo}
 use Rattle.exact.specs.Placement.{Vector, _≐ᵛ_, IsPlacement}
 use Rattle.exact.specs.Member.{degrees90, reflectedRotation, memberPlacement, IsGrid, gridOf}
-use Rattle.exact.specs.Manual.{manualPlace}
+use Rattle.exact.specs.Manual.{manualPlace, singleMember, manualAlong}
 use Rattle.exact.specs.Box.{SameBox, boxOf, referenceBox}
 use Rattle.exact.proofs.Integers.Bounds.{within-natural}
 use Rattle.exact.proofs.Placements.Member.{member-transform-exact}
@@ -74,14 +75,23 @@ member-translation = record { x = refl; y = refl }
 member-agrees : IsPlacement (gridMemberTransform grid 1 2) (memberPlacement (gridOf grid) 1 2)
 member-agrees = member-transform-exact grid (gridOf grid) 1 2 grid-is (omega arith) (omega arith)
 
--- ---- the point (3, 4) in the member at column 0 and row 0: reflected (3, −4), rotated (4, 3), moved (104, 203)
-point-floats : transformPoint2 (gridMemberTransform grid 0 0) (point 3 4) ≡ point 104 203
+-- ---- the point (3, 4) in that member: reflected (3, −4), rotated (4, 3), moved (64, 213)
+point-floats : transformPoint2 (gridMemberTransform grid 1 2) (point 3 4) ≡ point 64 213
 unfolding opened
 point-floats = refl
 
-point-manual : manualPlace (gridOf grid) (vector 3 4) ≐ᵛ vector 104 203
+point-manual : manualPlace (singleMember (gridOf grid) 1 2) (vector 3 4) ≐ᵛ vector 64 213
 unfolding opened
 point-manual = record { x = refl; y = refl }
+
+-- and in that member of that member: (64, 213) reflected (64, −213), rotated (213, 64), moved (273, 274)
+inner-floats : transformPoint2 (gridMemberTransform grid 1 2 · gridMemberTransform grid 1 2) (point 3 4) ≡ point 273 274
+unfolding opened
+inner-floats = refl
+
+inner-manual : manualAlong (singleMember (gridOf grid) 1 2 ∷ singleMember (gridOf grid) 1 2 ∷ []) (vector 3 4) ≐ᵛ vector 273 274
+unfolding opened
+inner-manual = record { x = refl; y = refl }
 
 -- ---- the reference's box around the source box 0, 0, 3, 4
 reference-floats : referenceBbox grid (bbox zeroFloat zeroFloat (float 3) (float 4)) ≡ boxed (bbox (float 60) (float 200) (float 104) (float 213))

@@ -2,10 +2,8 @@
 -- Definitions only. Assumes nothing.
 -- Seeds: drawable.rs (`WorldBBox`), bevy_scene.rs (`transform_bbox`, `reference_bbox`).
 use mathlib.Core.Bool.{Bool, cond}
-use Prim.Native.Nat.{ℕ, _-_}
+use Prim.Native.Nat.{ℕ, _-_, _<_}
 use Rattle.geometry.specs.declared.bbox.WorldBBox.{WorldBBox}
-use Rattle.geometry.specs.declared.bbox.Bounds.{Bounds}
-use Rattle.geometry.specs.declared.bbox.Bounds.the-variants.{Absent, Box}
 use Rattle.exact.specs.Integer.{Integer, _⊕_, negate, _≐_, _≼_, minimum, maximum, Within}
 use Rattle.exact.specs.IsInteger.{IsInteger, integerOf}
 use Rattle.exact.specs.Placement.{Vector, ExactPlacement, move}
@@ -73,11 +71,6 @@ pub record IsBox (b : WorldBBox) (z : IntegerBox) : Type 0 where
   pub «max_x» : IsInteger (b .«max_x») (z .«max_x»)
   pub «max_y» : IsInteger (b .«max_y») (z .«max_y»)
 
--- the box is there, and is z
-abbrev pub IsPresentBox : Bounds → IntegerBox → Type 0
-IsPresentBox Absent z = ⊥
-IsPresentBox (Box a b c d) z = IsBox (record { «min_x» = a; «min_y» = b; «max_x» = c; «max_y» = d }) z
-
 abbrev pub boxOf : WorldBBox → IntegerBox
 boxOf b = record {
   «min_x» = integerOf (b .«min_x»);
@@ -122,7 +115,6 @@ pub record IsPlacedBox (T : ExactPlacement) (b placed : IntegerBox) : Type 0 whe
   pub least : (c : IntegerBox) → ((v : Vector) → Holds b v → Holds c (move T v)) → Inside placed c
 
 -- ---- a reference's box, `reference_bbox`: the least box around the corner members, where there are columns and rows
--- It is the least box around all members: `reference-box-encloses-member` and `reference-box-least` in proofs/Boxes/Reference.antt.
 abbrev pub join : IntegerBox → IntegerBox → IntegerBox
 join a b = record {
   «min_x» = minimum (a .«min_x») (b .«min_x»);
@@ -139,3 +131,8 @@ referenceBox g columns rows b =
     let lastColumn = columns - 1 in
     let lastRow = rows - 1 in
     join (join (join (memberBox g 0 0 b) (memberBox g 0 lastRow b)) (memberBox g lastColumn 0 b)) (memberBox g lastColumn lastRow b)
+
+-- It is the least box around all members, where there are columns and rows: `reference-box-least` in proofs/Boxes/Reference.antt.
+pub record IsReferenceBox (g : IntegerGrid) (columns rows : ℕ) (b around : IntegerBox) : Type 0 where
+  pub encloses : (column row : ℕ) → column < columns → row < rows → Inside (memberBox g column row b) around
+  pub least : (c : IntegerBox) → ((column row : ℕ) → column < columns → row < rows → Inside (memberBox g column row b) c) → Inside around c

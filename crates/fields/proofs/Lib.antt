@@ -2,6 +2,8 @@
 --     Reading      laws of `uintAt`
 --     Writing      laws of `uintBytes`, and of fields written one after the other
 --     ReadBack     what is read where a field was written, and where none was
+--     Halves       a field of 2 j bytes from its halves
+-- Assumes nothing.
 mod Halves
 pub mod Reading
 pub mod Writing

@@ -5,8 +5,8 @@ use Prim.Native.Nat.{ℕ, zero, suc, _+_, _*_, _^_, _≤_, _<_}
 use native.Mathlib.Nat.{suc-add, zero-add, add-zero, mul-add, mul-assoc, mul-comm, pow-suc, zero-lt-suc}
 use native.Mathlib.Omega.{arith}
 use mathlib.Core.List.{List}
-use lib.ListN.{getD, length, take, drop, List·getD-eq-default}
-use lib.Seq.{getD-take, getD-drop}
+use lib.ListN.{getD, length, drop, List·getD-eq-default}
+use lib.Seq.{getD-drop}
 use Rattle.fields.specs.Field.{uintAt}
 
 -- ---- a field of j + k bytes is its lower j bytes and then its upper k
@@ -56,12 +56,9 @@ uintAt-same (suc k) s t at place h =
     ap (λ (m : ℕ). getD s m 0) l ∙ h (i + 1) (omega arith) ∙ ap (λ (m : ℕ). getD t m 0) r) in
     ap₂ (λ (a b : ℕ). a + 256 * b) first later
 
--- so a field is read alike in a part of the list
+-- so a field is read alike in what follows an offset
 pub uintAt-drop : (k n : ℕ) (s : List ℕ) (at : ℕ) → uintAt k (drop n s) at ≡ uintAt k s (n + at)
 uintAt-drop k n s at =
     uintAt-same k (drop n s) s at (n + at)
     (λ i b. let e : n + (at + i) ≡ n + at + i = omega arith in
     getD-drop n s (at + i) 0 ∙ ap (λ (m : ℕ). getD s m 0) e)
-
-pub uintAt-take : (k n : ℕ) (s : List ℕ) (at : ℕ) → at + k ≤ n → uintAt k (take n s) at ≡ uintAt k s at
-uintAt-take k n s at h = uintAt-same k (take n s) s at at (λ i b. getD-take n s (at + i) 0 (omega arith))

@@ -76,7 +76,7 @@ length-fieldBytes (uint k n) = length-uintBytes k n
 length-fieldBytes (f64 x) = length-uintBytes 8 _
 
 pub length-recordBytes : (fs : List Field) → length (recordBytes fs) ≡ widths fs
-unfolding recordBytes widths
+unfolding recordBytes
 length-recordBytes [] = refl
 length-recordBytes (f ∷ fs) =
     length-append (fieldBytes f) (recordBytes fs) ∙ ap₂ (λ (a b : ℕ). a + b) (length-fieldBytes f) (length-recordBytes fs)

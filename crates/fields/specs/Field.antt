@@ -42,7 +42,7 @@ fieldBytes (uint k n) = uintBytes k n
 fieldBytes (f64 x) = f64Bytes x
 
 -- the same of fields one after the other
-unfoldable pub widths : List Field → ℕ
+abbrev pub widths : List Field → ℕ
 widths [] = 0
 widths (f ∷ fs) = width f + widths fs
 

@@ -1,6 +1,6 @@
 // Little-endian fields of a slice of bytes: u16, u32, u64 and f64, read at an offset and written at one.
-// Every function is total. A byte past the end is read as 0 and is not written.
-// A function whose name ends in `_within` asks that the field lies wholly inside, and tests nothing.
+// A function whose name ends in `_within` requires that the field lies wholly inside, and tests nothing.
+// The others are total: a byte past the end is read as 0 and is not written.
 ghost use mathlib.Core.Path.{_≡_};
 ghost use Prim.Native.Nat.{_+_, _≤_};
 ghost use lib.ListN.{length};
@@ -96,7 +96,7 @@ pub fn f64_at(s: &[u8], at: usize) -> f64
 
 // ---- writing
 
-pub fn put_byte(d: &mut [u8], at: usize, n: u8)
+fn put_byte(d: &mut [u8], at: usize, n: u8)
     ensures { λ _. ⌜ now (d .exit) ≡ sets (now (d .entry)) at (uintBytes 1 n) ⌝ }
 {
     if at < d.len() {
@@ -104,7 +104,7 @@ pub fn put_byte(d: &mut [u8], at: usize, n: u8)
     }
 }
 
-pub fn put_u16_within(d: &mut [u8], at: usize, n: u16)
+fn put_u16_within(d: &mut [u8], at: usize, n: u16)
     requires { ⌜ at + 2 ≤ length (now d) ⌝ }
     ensures { λ _. ⌜ now (d .exit) ≡ sets (now (d .entry)) at (uintBytes 2 n) ⌝ }
 {
@@ -126,7 +126,7 @@ pub fn put_u16(d: &mut [u8], at: usize, n: u16)
     put_byte(d, at + 1, (n / 0x100) as u8);
 }
 
-pub fn put_u32_within(d: &mut [u8], at: usize, n: u32)
+fn put_u32_within(d: &mut [u8], at: usize, n: u32)
     requires { ⌜ at + 4 ≤ length (now d) ⌝ }
     ensures { λ _. ⌜ now (d .exit) ≡ sets (now (d .entry)) at (uintBytes 4 n) ⌝ }
 {
@@ -148,7 +148,7 @@ pub fn put_u32(d: &mut [u8], at: usize, n: u32)
     put_u16(d, at + 2, (n / 0x1_0000) as u16);
 }
 
-pub fn put_u64_within(d: &mut [u8], at: usize, n: u64)
+fn put_u64_within(d: &mut [u8], at: usize, n: u64)
     requires { ⌜ at + 8 ≤ length (now d) ⌝ }
     ensures { λ _. ⌜ now (d .exit) ≡ sets (now (d .entry)) at (uintBytes 8 n) ⌝ }
 {

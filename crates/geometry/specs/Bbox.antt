@@ -1,7 +1,7 @@
 -- Boxes in the world: drawable.rs (`WorldBBox`) and bevy_scene.rs (`transform_bbox`, `point_in_bbox`).
 -- A test `a >= b` of the Rust is `le b a` here: the value at the left of the Rust's line is the larger one.
 -- Definitions only. Assumes nothing.
-use mathlib.Core.Bool.{Bool, true, false, cond, _&&_, _||_}
+use mathlib.Core.Bool.{Bool, true, false, not, cond, _&&_, _||_}
 use lib.Ieee.{Float, inf, lt, le, eq}
 use Rattle.floats.specs.Order.{minNum, maxNum}
 use Rattle.geometry.specs.declared.placement.DVec2.{DVec2}
@@ -19,11 +19,6 @@ bbox a b c d = record { «min_x» = a; «min_y» = b; «max_x» = c; «max_y» =
 
 unfoldable pub boxed : WorldBBox → Bounds
 boxed b = Box (b .«min_x») (b .«min_y») (b .«max_x») (b .«max_y»)
-
--- Rust's `map_or`: `none` where there is no box, and else `some` of the box
-unfoldable pub mapOr : {X : Type 0} → X → (WorldBBox → X) → Bounds → X
-mapOr none some Absent = none
-mapOr none some (Box a b c d) = some (bbox a b c d)
 
 -- ---- drawable.rs
 
@@ -68,3 +63,13 @@ pointInBbox p b = le (b .«min_x») (p .x) && le (p .x) (b .«max_x») && le (b 
 -- `source_is_degenerate` of `visit_reference`
 unfoldable pub sourceIsDegenerate : WorldBBox → Bool
 sourceIsDegenerate b = eq (b .«min_x») (b .«max_x») || eq (b .«min_y») (b .«max_y»)
+
+-- `cell.bbox.map(|bbox| transform_bbox(transform, bbox))`
+abbrev pub transformBounds : Placement → Bounds → Bounds
+transformBounds p Absent = Absent
+transformBounds p (Box a b c d) = boxed (transformBbox p (bbox a b c d))
+
+-- `world_bbox.is_some_and(|bbox| !bbox.overlaps(self.options.visible))`
+abbrev pub isOutside : Bounds → WorldBBox → Bool
+isOutside Absent view = false
+isOutside (Box a b c d) view = not (overlaps (bbox a b c d) view)

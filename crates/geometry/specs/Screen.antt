@@ -11,6 +11,8 @@ use Rattle.floats.specs.Narrow.{narrow}
 use Rattle.floats.specs.Order.{abs, maxNum, isFinite}
 use Rattle.geometry.specs.declared.bbox.WorldBBox.{WorldBBox}
 use Rattle.geometry.specs.declared.screen.ScreenSize.{ScreenSize}
+use Rattle.geometry.specs.declared.screen.CollapseTest.{CollapseTest}
+use Rattle.geometry.specs.declared.screen.CollapseTest.the-variants as test
 use Rattle.geometry.specs.Rounded.{_⊖_, _⊗_}
 
 -- ---- the Rust's constants: 24, 128, 16, 8,192; 128, 16, 24; and one pixel
@@ -73,11 +75,22 @@ isDense s n = averageAreaWithin s n refLoadMinAvgInstanceAreaPx
 unfoldable pub isDenseBatch : ScreenSize → ℕ → Bool
 isDenseBatch s elements = leb denseBatchMinElements elements && averageAreaWithin s elements minAverageElementAreaPx
 
--- width, height, members of the grid, draw units, depth, and whether a box is asked for
+-- The tests of `should_collapse_reference` in its order: the first that is met, if any is.
+-- Width, height, members of the grid, draw units, depth, and whether a box is asked for.
+unfoldable pub collapseTest : Float → Float → ℕ → ℕ → ℕ → Bool → CollapseTest
+collapseTest w h members units depth force =
+    cond (force || leb depth 1) test.Depth
+    (cond (lt w refLoadThresholdPx || lt h refLoadThresholdPx) test.Side
+    (cond (ltb refMaxGridExpansion members) test.Grid
+    (cond (ltb units refDenseGridMinInstances) test.Passed
+    (cond (isDense (size w h) units) test.Density test.Passed))))
+
+abbrev pub collapses : CollapseTest → Bool
+collapses test.Passed = false
+collapses test.Depth = true
+collapses test.Side = true
+collapses test.Grid = true
+collapses test.Density = true
+
 unfoldable pub shouldCollapseReference : Float → Float → ℕ → ℕ → ℕ → Bool → Bool
-shouldCollapseReference w h members units depth force =
-    cond (force || leb depth 1) true
-    (cond (lt w refLoadThresholdPx || lt h refLoadThresholdPx) true
-    (cond (ltb refMaxGridExpansion members) true
-    (cond (ltb units refDenseGridMinInstances) false
-    (isDense (size w h) units))))
+shouldCollapseReference w h members units depth force = collapses (collapseTest w h members units depth force)

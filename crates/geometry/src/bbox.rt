@@ -1,6 +1,6 @@
 // Boxes in the world: drawable.rs's `WorldBBox`, a box that may be absent, and `transform_bbox` and `point_in_bbox` of bevy_scene.rs.
 ghost use mathlib.Core.Path.{_≡_};
-ghost use Rattle.geometry.specs.Bbox.{bbox, overlaps, merge, least, greatest, include, transformBbox, pointInBbox, sourceIsDegenerate};
+ghost use Rattle.geometry.specs.Bbox.{bbox, overlaps, merge, least, greatest, include, transformBbox, pointInBbox, sourceIsDegenerate, transformBounds, isOutside};
 use crate::placement::DVec2;
 use crate::placement::Placement;
 
@@ -130,4 +130,25 @@ pub fn source_is_degenerate(bbox: WorldBBox) -> bool
     ensures { λ r. ⌜ r ≡ sourceIsDegenerate bbox ⌝ }
 {
     bbox.min_x == bbox.max_x || bbox.min_y == bbox.max_y
+}
+
+// `cell.bbox.map(|bbox| transform_bbox(transform, bbox))`
+pub fn transform_bounds(transform: Placement, bounds: Bounds) -> Bounds
+    ensures { λ r. ⌜ r ≡ transformBounds transform bounds ⌝ }
+{
+    let Bounds::Box(min_x, min_y, max_x, max_y) = bounds else {
+        return Bounds::Absent;
+    };
+    let bbox = transform_bbox(transform, WorldBBox::new(min_x, min_y, max_x, max_y));
+    Bounds::Box(bbox.min_x, bbox.min_y, bbox.max_x, bbox.max_y)
+}
+
+// `world_bbox.is_some_and(|bbox| !bbox.overlaps(self.options.visible))`
+pub fn is_outside(bounds: Bounds, view: WorldBBox) -> bool
+    ensures { λ r. ⌜ r ≡ isOutside bounds view ⌝ }
+{
+    let Bounds::Box(min_x, min_y, max_x, max_y) = bounds else {
+        return false;
+    };
+    !WorldBBox::new(min_x, min_y, max_x, max_y).overlaps(view)
 }

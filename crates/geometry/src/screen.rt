@@ -1,7 +1,7 @@
 // Sizes on the screen, in f32, and the tests that are made of them: `screen_size` and `reference_screen_size`, the tests of
 // `visit_reference` and `push_geometry` in bevy_scene.rs, and drawable.rs's `should_collapse_reference`.
 ghost use mathlib.Core.Path.{_≡_};
-ghost use Rattle.geometry.specs.Screen.{side, screenSize, referenceScreenSize, isSubpixel, averageAreaWithin, isDense, isDenseBatch, shouldCollapseReference};
+ghost use Rattle.geometry.specs.Screen.{side, screenSize, referenceScreenSize, isSubpixel, averageAreaWithin, isDense, isDenseBatch, collapseTest, collapses};
 use crate::bbox::WorldBBox;
 
 const REF_LOAD_THRESHOLD_PX: f32 = 24.0;
@@ -71,7 +71,7 @@ fn average_area_within(size: ScreenSize, count: u64, limit: f32) -> bool
 }
 
 // The last test of `should_collapse_reference`.
-pub fn is_dense(size: ScreenSize, count: u64) -> bool
+fn is_dense(size: ScreenSize, count: u64) -> bool
     ensures { λ r. ⌜ r ≡ isDense size count ⌝ }
 {
     average_area_within(size, count, REF_LOAD_MIN_AVG_INSTANCE_AREA_PX)
@@ -85,33 +85,57 @@ pub fn is_dense_batch(size: ScreenSize, element_count: u32) -> bool
         && average_area_within(size, element_count as u64, MIN_AVERAGE_ELEMENT_AREA_PX)
 }
 
-pub fn should_collapse_reference(
+// Which test of `should_collapse_reference` sends a reference to a box.
+pub enum CollapseTest {
+    Passed,
+    Depth,
+    Side,
+    Grid,
+    Density,
+}
+
+// `should_collapse_reference`, naming the first test that is met.
+pub fn collapse_test(
     width_px: f32,
     height_px: f32,
     grid_count: u64,
     draw_unit_count: u64,
     reference_depth: u32,
     force_bbox: bool,
-) -> bool
-    ensures { λ r. ⌜ r ≡ shouldCollapseReference «width_px» «height_px» «grid_count» «draw_unit_count» «reference_depth» «force_bbox» ⌝ }
+) -> CollapseTest
+    ensures { λ r. ⌜ r ≡ collapseTest «width_px» «height_px» «grid_count» «draw_unit_count» «reference_depth» «force_bbox» ⌝ }
 {
     if force_bbox || reference_depth <= 1 {
-        return true;
+        return CollapseTest::Depth;
     }
     if width_px < REF_LOAD_THRESHOLD_PX || height_px < REF_LOAD_THRESHOLD_PX {
-        return true;
+        return CollapseTest::Side;
     }
     if grid_count > REF_MAX_GRID_EXPANSION {
-        return true;
+        return CollapseTest::Grid;
     }
     if draw_unit_count < REF_DENSE_GRID_MIN_INSTANCES {
-        return false;
+        return CollapseTest::Passed;
     }
-    is_dense(
-        ScreenSize {
-            width: width_px,
-            height: height_px,
-        },
-        draw_unit_count,
-    )
+    let size = ScreenSize {
+        width: width_px,
+        height: height_px,
+    };
+    if is_dense(size, draw_unit_count) {
+        return CollapseTest::Density;
+    }
+    CollapseTest::Passed
+}
+
+// Whether a test sends the reference to a box.
+pub fn collapses(test: CollapseTest) -> bool
+    ensures { λ r. ⌜ r ≡ collapses test ⌝ }
+{
+    match test {
+        CollapseTest::Passed => false,
+        CollapseTest::Depth => true,
+        CollapseTest::Side => true,
+        CollapseTest::Grid => true,
+        CollapseTest::Density => true,
+    }
 }

@@ -1,4 +1,4 @@
--- For programs: a buffer of zeros that is long enough for a line. Reply by a law, not counted out.
+-- For programs: a buffer of zeros that is long enough for a line. Stated by a law, not counted out.
 -- Assumes nothing.
 use Prim.Native.Nat.{ℕ, _≤_}
 use native.Mathlib.Omega.{arith}

@@ -1,14 +1,13 @@
 -- Which answer an outcome tells of: a refusal's number is not 0, a plan's tape is not empty, and it lies within the lent output.
 -- Assumes nothing.
-use mathlib.Core.Path.{_≡_, refl}
-use mathlib.Core.Bool.{Bool, true, false, cond, _&&_}
+use mathlib.Core.Path.{_≡_, refl, sym, subst}
+use mathlib.Core.Bool.{Bool, true, false, cond}
 use mathlib.Core.List.{List, [], _∷_}
-use Prim.Native.Nat.{ℕ, _≤_, _<_}
+use Prim.Native.Nat.{ℕ, zero, suc, _≤_, _<_}
 use native.Mathlib.Omega.{arith}
 use lib.ListN.{length, drop, replicate, length-append}
 use lib.Dec.{leb, eqb}
 use borrow.Author.Tests.{eqb-false}
-use Rattle.fields.specs.Field.{widths}
 use Rattle.fields.proofs.Writing.{length-recordBytes}
 use Rattle.walk.specs.Offsets.{kindAt, offsets}
 use Rattle.walk.specs.Find.{countOf}
@@ -22,14 +21,15 @@ use Rattle.check_sheet.specs.Links.{linkOk}
 use Rattle.check_sheet.specs.Check.{firstNo, firstUnnamed, checkSheet}
 use Rattle.plan_rules.specs.declared.Answer.the-variants.{Refused}
 use Rattle.plan_rules.specs.declared.ScenePlan.{ScenePlan}
-use Rattle.plan_rules.specs.Limits.{maxDepth}
-use Rattle.plan_rules.specs.Event.{Event, emptyPlan, totals}
+use Rattle.plan_rules.specs.Event.{Event, fieldsOf, encode, emptyPlan, totals}
 use Rattle.plan_rules.specs.World.{Query, world}
 use Rattle.plan_rules.specs.Scratch.{countsNamed, marksNamed}
 use Rattle.plan_rules.specs.Push.{say}
 use Rattle.plan_rules.specs.Plan.{visitRoot, plan}
-use Rattle.plan_rules.specs.Tape.{encode, fieldsOf, noTag, note, tape}
-use Rattle.plan_rules.specs.Outcome.{Outcome, outcome, viewOk, zoomOk, freshPlan, tapeOf, delivered, soundOutcome, checkedOutcome, outcomeOf}
+use Rattle.plan_rules.specs.Tape.{noTag, note, tape}
+use Rattle.plan_rules.specs.Questions.{queryRefusal}
+use Rattle.plan_rules.specs.Outcome.{Outcome, outcome, freshPlan, tapeOf, delivered, soundOutcome, checkedOutcome, outcomeOf}
+use Rattle.plan_rules.proofs.OutcomeTheorem.{query-refused, query-passed}
 
 -- ---- a sheet's refusal has a number
 
@@ -64,7 +64,7 @@ module _ (s : List ℕ) where
 -- ---- a tape is not empty: it ends with its totals
 
 length-totals : (s : ScenePlan) → length (encode (totals s)) ≡ 54
-unfolding encode widths
+unfolding encode
 length-totals s = length-recordBytes (fieldsOf (totals s))
 
 tape-ends : (l : List (Unit {0} × Event)) (s : ScenePlan) → 0 < length (tape ((tt, totals s) ∷ l))
@@ -104,15 +104,11 @@ module _ (S : Sheet) (cells : ℕ) (q : Query) (o k m : List ℕ) where
       (told-refused 12 0 _ _ _ (omega arith))
 
   told-sound : Told (soundOutcome S cells q o k m)
-  unfolding soundOutcome
-  told-sound =
-      told-if (viewOk (q .view))
-      (told-if (zoomOk (q .zoom))
-      (told-if (leb (q .depth) maxDepth)
-      (told-if (leb nk (length k) && leb nm (length m)) told-delivered (told-refused 11 0 o k m (omega arith)))
-      (told-refused 10 0 o k m (omega arith)))
-      (told-refused 9 0 o k m (omega arith)))
-      (told-refused 8 0 o k m (omega arith))
+  told-sound = by (queryRefusal (q .view) (q .zoom) (q .depth) cells (length k) (length m)) refl
+    where
+      by : (n : ℕ) → n ≡ queryRefusal (q .view) (q .zoom) (q .depth) cells (length k) (length m) → Told (soundOutcome S cells q o k m)
+      by zero e = subst Told (sym (query-passed S cells q o k m (sym e))) told-delivered
+      by (suc n) e = subst Told (sym (query-refused S cells q o k m e (λ z. omega arith))) (told-refused (suc n) 0 o k m (omega arith))
 
 told-checked : (c : Checked) (S : Sheet) (q : Query) (o k m : List ℕ) → Numbered c → Told (checkedOutcome c S q o k m)
 told-checked (checked.Refused number offset) S q o k m (refused h) = told-refused number offset o k m h

@@ -1,4 +1,4 @@
--- What is reply of an input, by code path: a plan, a refusal, no query, or too long.
+-- The reply to an input, by code path: a plan, a refusal, no query, or too long.
 -- Assumes nothing.
 use mathlib.Core.Path.{_≡_, refl, sym, ap, _∙_}
 use mathlib.Core.List.{List}

@@ -9,7 +9,7 @@ use Rattle.abstract_sheet.proofs.Examples.{workedText, workedCell, workedSheet}
 use Rattle.plan_text.specs.Ascii.{ascii}
 use Rattle.plan_text.proofs.Opened.{openedText}
 use Rattle.plan_rules.proofs.Cases.OpenedSheet.{openedSheet}
-use Rattle.plan_rules.proofs.Cases.Samples.{whole}
+use Rattle.plan_rules.specs.Samples.{whole}
 use Rattle.plan_answer.specs.Text.{outcomeText}
 use Rattle.plan_answer.specs.Reply.{Reply, replyOfQuery, replyOf, replyOfRead}
 

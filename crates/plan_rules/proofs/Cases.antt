@@ -1,16 +1,16 @@
 -- The rules computed: what they answer on numbers, small sheets and bytes, beside what document 01 says.
---     Edges          the readings at the edges that document 01 marks P, the limits, and the memory of counts: lists, each checked by one theorem
+--     Readings       the readings at the edges that document 01 marks P: one list, one theorem
+--     Edges          narrowing, the limits, and the memory of counts
 --     Records        a record of each kind, byte by byte
 --     Plans          the events of whole plans on small sheets
 --     Calls          whole calls from bytes: the worked example, and refusals
---     Samples        the small sheets and queries
 --     Opened         one name that opens the rules, to compute with them
 --     OpenedSheet    the same for questions 1 to 7
 -- Assumes nothing.
+pub mod Readings
 pub mod Edges
 pub mod Records
 pub mod Plans
 pub mod Calls
-pub mod Samples
 pub mod Opened
 pub mod OpenedSheet

@@ -3,6 +3,7 @@
 --     Simulation        the one induction over the rules, for two runs side by side
 --     Invariant         the same for one run
 --     TapeTheorem       the bytes are the events' records
+--     Questions         what a query has that passes questions 8 to 11
 --     OutcomeTheorem    the outcome by code path, and by the run that writes
 --     Paths             the rules by code path, for proofs about code
 --     Memory            the lent scratch is the Rust's memory
@@ -11,6 +12,7 @@ pub mod Cases
 pub mod Simulation
 pub mod Invariant
 pub mod TapeTheorem
+pub mod Questions
 pub mod OutcomeTheorem
 pub mod Paths
 pub mod Memory

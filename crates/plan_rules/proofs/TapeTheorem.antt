@@ -16,35 +16,20 @@ use Rattle.fields.proofs.Writing.{sets-append, length-recordBytes}
 use Rattle.abstract_sheet.specs.Sheet.{Sheet}
 use Rattle.plan_rules.specs.declared.ScenePlan.{ScenePlan}
 use Rattle.plan_rules.specs.Limits.{maxTotal}
-use Rattle.plan_rules.specs.Event.{Event, batch, text, point, proxy, droppedProxy, skippedMember, skippedBatch, culledReference, culledBatch, nodeGridLimit, detailCell, totals, Step, saturate, _⊞_, emptyPlan, amounts, after}
+use Rattle.plan_rules.specs.Event.{Event, totals, Step, fieldsOf, encode, saturate, _⊞_, emptyPlan, amounts, after}
 use Rattle.plan_rules.specs.World.{Query, World, world}
 use Rattle.plan_rules.specs.Push.{say}
 use Rattle.plan_rules.specs.Plan.{visitRoot, plan}
-use Rattle.plan_rules.specs.Tape.{fieldsOf, encode, putRecord, noTag, onTape, note, tape}
+use Rattle.plan_rules.specs.Tape.{putRecord, noTag, onTape, note, tape}
 use Rattle.plan_rules.proofs.Simulation.{Related, the-relation, same-state}
 use Rattle.plan_rules.proofs.Simulation.Premises.{Room, no-premises}
 use Rattle.plan_rules.proofs.Simulation.Visits.{plan-sim}
 
--- ---- a record says its own length: what an event adds to the tape's end is what its fields take
-
-pub widths-amount : (e : Event) → widths (fieldsOf e) ≡ amounts e .«tape_end»
-unfolding widths
-widths-amount (batch n p) = refl
-widths-amount (text n v) = refl
-widths-amount (point l k v) = refl
-widths-amount (proxy l b) = refl
-widths-amount (droppedProxy l b) = refl
-widths-amount (skippedMember g b) = refl
-widths-amount (skippedBatch b) = refl
-widths-amount culledReference = refl
-widths-amount culledBatch = refl
-widths-amount nodeGridLimit = refl
-widths-amount detailCell = refl
-widths-amount (totals s) = refl
+-- ---- a record's length is what its event adds to the tape's end
 
 pub encode-length : (e : Event) → length (encode e) ≡ amounts e .«tape_end»
 unfolding encode
-encode-length e = length-recordBytes (fieldsOf e) ∙ widths-amount e
+encode-length e = length-recordBytes (fieldsOf e)
 
 -- ---- a record on the output
 
@@ -92,7 +77,7 @@ module _ {P : Type 0} (o : List ℕ) where
         written = λ small fits.
             let end : s .«tape_end» ≡ length (tape l) = below-stop (s .«tape_end») (length (tape l)) (r .ends) (omega arith) in
             let before : b ≡ sets o 0 (tape l) = r .written small (omega arith) in
-            put-fits b (s .«tape_end») (fieldsOf e) (omega (arith, widths-amount e, r .same-length))
+            put-fits b (s .«tape_end») (fieldsOf e) (omega (arith, r .same-length))
             ∙ ap (λ (n : ℕ). sets b n (recordBytes (fieldsOf e))) end
             ∙ ap (λ (x : List ℕ). sets x (length (tape l)) (recordBytes (fieldsOf e))) before
             ∙ ap (λ (n : ℕ). sets (sets o 0 (tape l)) n (recordBytes (fieldsOf e))) (sym (zero-add (length (tape l))))

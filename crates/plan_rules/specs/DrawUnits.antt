@@ -13,7 +13,7 @@ use Rattle.records.specs.declared.PreparedSource.{PreparedSource}
 use Rattle.records.specs.declared.PreparedSource.the-variants.{Geometry, Text, Node, Reference, Cell}
 use Rattle.records.specs.declared.PreparedReference.{PreparedReference}
 use Rattle.abstract_sheet.specs.Sheet.{CellRecord, Sheet}
-use Rattle.plan_rules.specs.Event.{saturate}
+use Rattle.plan_rules.specs.Event.{saturate, _⊞_}
 use Rattle.plan_rules.specs.Scratch.{countingPlace, rememberedPlace, countPlace, isMarked}
 
 -- a count, and the marks and the counts after it
@@ -35,24 +35,32 @@ fold step zero i u = u
 fold step (suc count) i u = fold step count (i + 1) (step i u)
 
 abbrev pub CountReference : Type 0
-CountReference = ℕ → List ℕ → List ℕ → Units
+CountReference = PreparedReference → List ℕ → List ℕ → Units
 
 abbrev pub CountSource : Type 0
 CountSource = PreparedSource → List ℕ → List ℕ → Units
 
--- `reference_draw_units` at a depth, given how its source is counted at the depth below. (A number that names no reference counts 0; no sheet that passes question 7 has one.)
-unfoldable pub referenceDrawUnitsWith : ℕ → CountSource → Option PreparedReference → List ℕ → List ℕ → Units
-referenceDrawUnitsWith depth deeper none k m = counted 0 k m
-referenceDrawUnitsWith depth deeper (some r) k m =
+-- by number
+abbrev pub CountNumber : Type 0
+CountNumber = ℕ → List ℕ → List ℕ → Units
+
+-- `reference_draw_units` at a depth, given how its source is counted at the depth below
+unfoldable pub referenceDrawUnitsWith : ℕ → CountSource → CountReference
+referenceDrawUnitsWith depth deeper r k m =
     cond (eqb (gridCount (r .grid)) 0) (counted 0 k m)
     (cond (leb depth 1) (scaled (gridCount (r .grid)) (counted 1 k m))
     (scaled (gridCount (r .grid)) (deeper (r .source) k m)))
 
+-- the reference that a number names, given how a reference is counted. (A number that names none counts 0; no sheet that passes question 7 has one.)
+unfoldable pub foundDrawUnits : CountReference → Option PreparedReference → List ℕ → List ℕ → Units
+foundDrawUnits visit none k m = counted 0 k m
+foundDrawUnits visit (some r) k m = visit r k m
+
 -- `count.saturating_add(self.reference_draw_units(reference, depth))`
-unfoldable pub addReferenceUnits : CountReference → CellRecord → ℕ → Units → Units
+unfoldable pub addReferenceUnits : CountNumber → CellRecord → ℕ → Units → Units
 addReferenceUnits visit c i u =
     let v = visit (c .references .at i) (u .counts) (u .marks) in
-    counted (saturate (u .units + v .units)) (v .counts) (v .marks)
+    counted (u .units ⊞ v .units) (v .counts) (v .marks)
 
 module _ (S : Sheet) (cells : ℕ) where
   -- the cell leaves `complexity_stack`, and its count enters `complexity_cache`
@@ -62,9 +70,9 @@ module _ (S : Sheet) (cells : ℕ) where
       (set (u .counts) (countPlace cells depth n) (u .units))
       (set (set (u .marks) (countingPlace cells n) 0) (rememberedPlace cells depth n) 1)
 
-  -- `cell_draw_units` at a depth, given how a reference is counted at this depth. A missing cell counts 1 in every case, and has no place in the scratch.
+  -- `cell_draw_units` at a depth, given how the reference of a number is counted at this depth. A missing cell counts 1 in every case, and has no place in the scratch.
   -- Depth 0 is asked first, since it has no layer: the Rust asks the cache first, which never holds depth 0.
-  unfoldable pub cellDrawUnitsWith : ℕ → CountReference → ℕ → Option CellRecord → List ℕ → List ℕ → Units
+  unfoldable pub cellDrawUnitsWith : ℕ → CountNumber → ℕ → Option CellRecord → List ℕ → List ℕ → Units
   cellDrawUnitsWith depth visit n none k m = counted 1 k m
   cellDrawUnitsWith depth visit n (some c) k m =
       cond (eqb depth 0) (counted 1 k m)
@@ -72,21 +80,29 @@ module _ (S : Sheet) (cells : ℕ) where
       (cond (isMarked m (countingPlace cells n)) (counted 1 k m)
       (remember depth n (fold (addReferenceUnits visit c) (c .references .count) 0 (counted (c .«direct_draw_units») k (set m (countingPlace cells n) 1))))))
 
-  -- `source_draw_units`, given how a reference is counted at this depth
-  unfoldable pub sourceDrawUnitsWith : ℕ → CountReference → CountSource
+  -- `source_draw_units`, given how the reference of a number is counted at this depth
+  unfoldable pub sourceDrawUnitsWith : ℕ → CountNumber → CountSource
   sourceDrawUnitsWith depth visit (Geometry n) k m = counted 1 k m
   sourceDrawUnitsWith depth visit (Text n) k m = counted 1 k m
   sourceDrawUnitsWith depth visit (Node n) k m = counted 1 k m
   sourceDrawUnitsWith depth visit (Reference n) k m = visit n k m
   sourceDrawUnitsWith depth visit (Cell n) k m = cellDrawUnitsWith depth visit n (S .cell n) k m
 
+  -- the reference that a number names on the sheet
+  abbrev numbered : CountReference → CountNumber
+  numbered visit n k m = foundDrawUnits visit (S .reference n) k m
+
   -- The three counts. At depth 0 a reference asks no source: its depth is at most 1.
   unfoldable pub referenceDrawUnits : ℕ → CountReference
-  referenceDrawUnits zero n k m = referenceDrawUnitsWith 0 (λ s k m. counted 1 k m) (S .reference n) k m
-  referenceDrawUnits (suc depth) n k m = referenceDrawUnitsWith (suc depth) (sourceDrawUnitsWith depth (referenceDrawUnits depth)) (S .reference n) k m
+  referenceDrawUnits zero r k m = referenceDrawUnitsWith 0 (λ s k m. counted 1 k m) r k m
+  referenceDrawUnits (suc depth) r k m = referenceDrawUnitsWith (suc depth) (sourceDrawUnitsWith depth (numbered (referenceDrawUnits depth))) r k m
+
+  -- the first by number, for a cell's list and for an inner reference
+  abbrev pub numberedDrawUnits : ℕ → CountNumber
+  numberedDrawUnits depth n k m = numbered (referenceDrawUnits depth) n k m
 
   unfoldable pub sourceDrawUnits : ℕ → CountSource
-  sourceDrawUnits depth = sourceDrawUnitsWith depth (referenceDrawUnits depth)
+  sourceDrawUnits depth = sourceDrawUnitsWith depth (numberedDrawUnits depth)
 
-  unfoldable pub cellDrawUnits : ℕ → CountReference
-  cellDrawUnits depth n k m = cellDrawUnitsWith depth (referenceDrawUnits depth) n (S .cell n) k m
+  unfoldable pub cellDrawUnits : ℕ → CountNumber
+  cellDrawUnits depth n k m = cellDrawUnitsWith depth (numberedDrawUnits depth) n (S .cell n) k m

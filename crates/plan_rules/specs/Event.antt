@@ -1,12 +1,16 @@
--- What happens in a plan (events), where it happens (steps), and what each event adds to the totals.
+-- What happens in a plan (events), where it happens (steps), the record of each event on the tape, and what it adds to the totals.
 -- Every change of the state is an event, so a fact that each event keeps is kept by every plan.
--- Definitions only; rests on `Limits` and the declared types.
-use mathlib.Core.Bool.{Bool}
+-- Definitions only; rests on `Limits`, the fields' definitions and the declared types.
+use mathlib.Core.Bool.{Bool, cond}
+use mathlib.Core.List.{List, [], _∷_}
 use Prim.Native.Nat.{ℕ, zero, suc, _+_, min}
+use lib.Dec.{eqb}
+use Rattle.fields.specs.Field.{Field, uint, f64, widths, recordBytes}
 use Rattle.geometry.specs.declared.placement.DVec2.{DVec2}
 use Rattle.geometry.specs.declared.bbox.WorldBBox.{WorldBBox}
 use Rattle.geometry.specs.declared.placement.Placement.{Placement}
 use Rattle.plan_rules.specs.declared.ScenePlan.{ScenePlan}
+use Rattle.plan_rules.specs.declared.Reason.{Reason}
 use Rattle.plan_rules.specs.Limits.{maxTotal}
 
 -- ---- events
@@ -16,8 +20,8 @@ pub data Event : Type 0 where
   batch : ℕ → Placement → Event  -- number, placement
   text : ℕ → DVec2 → Event  -- number, position
   point : ℕ → ℕ → DVec2 → Event  -- layer, node type, position
-  proxy : ℕ → WorldBBox → Event  -- label, box
-  droppedProxy : ℕ → WorldBBox → Event  -- "A full proxy list drops further proxies silently"
+  proxy : Reason → ℕ → WorldBBox → Event  -- why, label, box
+  droppedProxy : Reason → ℕ → WorldBBox → Event  -- "A full proxy list drops further proxies silently"
   skippedMember : Bool → WorldBBox → Event  -- is the source box degenerate; the member's box
   skippedBatch : WorldBBox → Event
   culledReference : Event  -- a reference or one of its members
@@ -31,6 +35,42 @@ pub data Step : Type 0 where
   batchAt textAt nodeAt referenceAt : ℕ → Step  -- a list place in a cell
   member : ℕ → ℕ → Step  -- column, row
   pointAt : ℕ → Step
+
+-- ---- records
+
+-- "whole length (4 bytes), kind (2), body"
+abbrev pub header : ℕ → List Field → List Field
+header kind body = uint 4 (6 + widths body) ∷ uint 2 kind ∷ body
+
+-- a proxy's record, which does not say why
+abbrev pub proxyFields : ℕ → WorldBBox → List Field
+proxyFields label b = header 14 (uint 4 label ∷ f64 (b .«min_x») ∷ f64 (b .«min_y») ∷ f64 (b .«max_x») ∷ f64 (b .«max_y») ∷ [])
+
+-- the record of an event, field by field; an event that is not written has none
+abbrev pub fieldsOf : Event → List Field
+fieldsOf (batch number p) = header 11 (uint 4 number ∷ f64 (p .xx) ∷ f64 (p .xy) ∷ f64 (p .yx) ∷ f64 (p .yy) ∷ f64 (p .tx) ∷ f64 (p .ty) ∷ [])
+fieldsOf (text number v) = header 12 (uint 4 number ∷ f64 (v .x) ∷ f64 (v .y) ∷ [])
+fieldsOf (point layer type v) = header 13 (uint 2 layer ∷ uint 2 type ∷ f64 (v .x) ∷ f64 (v .y) ∷ [])
+fieldsOf (proxy why label b) = proxyFields label b
+fieldsOf (droppedProxy why label b) = []
+fieldsOf (skippedMember degenerate b) = []
+fieldsOf (skippedBatch b) = []
+fieldsOf culledReference = []
+fieldsOf culledBatch = []
+fieldsOf nodeGridLimit = []
+fieldsOf detailCell = []
+fieldsOf (totals s) =
+    header 15
+    (uint 8 (s .«detail_cells»)
+    ∷ uint 8 (s .«detail_objects»)
+    ∷ uint 8 (s .«culled_references»)
+    ∷ uint 8 (s .«skipped_subpixel_references»)
+    ∷ uint 8 (s .«culled_geometry_batches»)
+    ∷ uint 8 (s .«skipped_subpixel_geometry_batches»)
+    ∷ [])
+
+unfoldable pub encode : Event → List ℕ
+encode e = recordBytes (fieldsOf e)
 
 -- ---- totals
 
@@ -62,21 +102,54 @@ scenePlan end texts proxies cells objects culledReferences skippedReferences cul
 unfoldable pub emptyPlan : ScenePlan
 emptyPlan = scenePlan 0 0 0 0 0 0 0 0 0
 
--- What an event adds: bytes on the tape, texts, proxies, cells in detail, objects, culled references, skipped references, culled batches, skipped batches.
--- "Objects equal listed batches, texts and points together."
+-- the totals that an event may count
+pub data Total : Type 0 where
+  texts proxies cells objects culledReferences skippedReferences culledBatches skippedBatches : Total
+
+-- by its place among them
+abbrev column : Total → ℕ
+column texts = 0
+column proxies = 1
+column cells = 2
+column objects = 3
+column culledReferences = 4
+column skippedReferences = 5
+column culledBatches = 6
+column skippedBatches = 7
+
+-- the totals in which an event counts one. "Objects equal listed batches, texts and points together."
+abbrev pub countedIn : Event → List Total
+countedIn (batch number placement) = objects ∷ []
+countedIn (text number position) = texts ∷ objects ∷ []
+countedIn (point layer type position) = objects ∷ []
+countedIn (proxy why label box) = proxies ∷ []
+countedIn (droppedProxy why label box) = []
+countedIn (skippedMember degenerate box) = skippedReferences ∷ []
+countedIn (skippedBatch box) = skippedBatches ∷ []
+countedIn culledReference = culledReferences ∷ []
+countedIn culledBatch = culledBatches ∷ []
+countedIn nodeGridLimit = []
+countedIn detailCell = cells ∷ []
+countedIn (totals plan) = []
+
+-- how often a total stands in a list
+abbrev times : Total → List Total → ℕ
+times t [] = 0
+times t (x ∷ l) = cond (eqb (column t) (column x)) 1 0 + times t l
+
+-- what an event adds: to the tape's end the bytes of its record, and one to each total in which it counts
 abbrev pub amounts : Event → ScenePlan
-amounts (batch number placement) = scenePlan 58 0 0 0 1 0 0 0 0
-amounts (text number position) = scenePlan 26 1 0 0 1 0 0 0 0
-amounts (point layer type position) = scenePlan 26 0 0 0 1 0 0 0 0
-amounts (proxy label box) = scenePlan 42 0 1 0 0 0 0 0 0
-amounts (droppedProxy label box) = scenePlan 0 0 0 0 0 0 0 0 0
-amounts (skippedMember degenerate box) = scenePlan 0 0 0 0 0 0 1 0 0
-amounts (skippedBatch box) = scenePlan 0 0 0 0 0 0 0 0 1
-amounts culledReference = scenePlan 0 0 0 0 0 1 0 0 0
-amounts culledBatch = scenePlan 0 0 0 0 0 0 0 1 0
-amounts nodeGridLimit = scenePlan 0 0 0 0 0 0 0 0 0
-amounts detailCell = scenePlan 0 0 0 1 0 0 0 0 0
-amounts (totals plan) = scenePlan 54 0 0 0 0 0 0 0 0
+amounts e = record {
+  «tape_end» = widths (fieldsOf e);
+  texts = times texts (countedIn e);
+  «load_proxies» = times proxies (countedIn e);
+  «detail_cells» = times cells (countedIn e);
+  «detail_objects» = times objects (countedIn e);
+  «culled_references» = times culledReferences (countedIn e);
+  «skipped_subpixel_references» = times skippedReferences (countedIn e);
+  «culled_geometry_batches» = times culledBatches (countedIn e);
+  «skipped_subpixel_geometry_batches» = times skippedBatches (countedIn e);
+}
 
 -- the state after an event
 unfoldable pub after : Event → ScenePlan → ScenePlan

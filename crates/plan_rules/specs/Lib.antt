@@ -1,14 +1,20 @@
 -- THE RULES of a plan, in document 01's order.
 --     Limits       the limits, each in one place
---     Event        what happens in a plan, where, and what it adds to the totals
+--     Event        what happens in a plan, where, its record on the tape, and what it adds to the totals
 --     World        the query, the state with its lent places, and loops that may stop early
 --     Scratch      the places of the lent counts and marks
 --     DrawUnits    `reference_draw_units`, `source_draw_units`, `cell_draw_units`
 --     Push         `add_load`, `push_geometry`, `push_text`, `push_node`
 --     Visit        `visit_cell`, `visit_reference`, `visit_source`
 --     Plan         `plan`, and the totals
---     Tape         the records as bytes; the code's end of the rules, and the proofs'
+--     Tape         the code's end of the rules, bytes, and the proofs', events
+--     OnTape       the rules at the code's end, by the names that the planner's contracts cite
+--     Questions    questions 8 to 11, of the query and the lent scratch: the number of the first no
 --     Outcome      the whole outcome of a call: questions 1 to 12, the tape, and every lent place
+--     Maps         the draw units over the Rust's maps and sets: the lent scratch stands for them
+--     MappedPlan   a plan over these maps and sets
+--     Samples      small sheets and queries
+--     Readings     the readings at the edges that document 01 marks P
 -- Definitions only; the facts about them are in proofs/.
 pub mod Limits
 pub mod Event
@@ -19,4 +25,10 @@ pub mod Push
 pub mod Visit
 pub mod Plan
 pub mod Tape
+pub mod OnTape
+pub mod Questions
 pub mod Outcome
+pub mod Maps
+pub mod MappedPlan
+pub mod Samples
+pub mod Readings

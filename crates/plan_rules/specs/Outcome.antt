@@ -1,27 +1,23 @@
 -- The whole outcome of a call: the answer, and what stands in every lent place after it. The entry point's contract equates a call to `outcomeOf`.
 -- Document 01, "Before a plan: the questions": questions 1 to 12 in order, "The first no is given".
--- Definitions only; rests on the sheet's questions (1 to 7), `Plan` and `Tape`.
-use mathlib.Core.Bool.{Bool, false, cond, _&&_}
+-- Definitions only; rests on the sheet's questions (1 to 7), the query's (8 to 11), `Plan` and `Tape`.
+use mathlib.Core.Bool.{cond}
 use mathlib.Core.List.{List, [], _++_}
 use Prim.Native.Nat.{ℕ}
 use lib.ListN.{length, drop, replicate}
-use lib.Dec.{leb}
-use lib.IntN.{pos}
-use lib.Ieee.{Float, fin, le, lt}
-use Rattle.geometry.specs.declared.bbox.WorldBBox.{WorldBBox}
-use Rattle.floats.specs.Order.{isFinite}
+use lib.Dec.{leb, eqb}
 use Rattle.abstract_sheet.specs.Sheet.{Sheet, sheetOf}
 use Rattle.check_sheet.specs.declared.Checked.{Checked}
 use Rattle.check_sheet.specs.declared.Checked.the-variants as checked
 use Rattle.check_sheet.specs.Check.{checkSheet}
 use Rattle.plan_rules.specs.declared.Answer.{Answer}
 use Rattle.plan_rules.specs.declared.Answer.the-variants.{Planned, Refused}
-use Rattle.plan_rules.specs.Limits.{maxDepth}
 use Rattle.plan_rules.specs.Event.{Event, emptyPlan, Step}
 use Rattle.plan_rules.specs.World.{Query, World, world}
 use Rattle.plan_rules.specs.Scratch.{countsNamed, marksNamed}
 use Rattle.plan_rules.specs.Plan.{plan}
 use Rattle.plan_rules.specs.Tape.{noTag, note, tape}
+use Rattle.plan_rules.specs.Questions.{queryRefusal}
 
 -- ---- an answer in document 01's numbers: the refusal's number (0 for a plan), its offset, and the tape's length
 
@@ -50,18 +46,6 @@ pub record Outcome : Type 0 where
 abbrev pub outcome : Answer → List ℕ → List ℕ → List ℕ → Outcome
 outcome a o k m = record { number = numberOf a; offset = offsetOf a; tapeLength = lengthOf a; out = o; counts = k; marks = m }
 
--- ---- questions 8 and 9
-
--- "Is the view finite, min at most max?"
-unfoldable pub viewOk : WorldBBox → Bool
-viewOk v =
-    isFinite (v .«min_x») && isFinite (v .«min_y») && isFinite (v .«max_x») && isFinite (v .«max_y»)
-    && le (v .«min_x») (v .«max_x») && le (v .«min_y») (v .«max_y»)
-
--- "Is zoom finite and above 0?"
-unfoldable pub zoomOk : Float → Bool
-zoomOk z = isFinite z && lt (fin false 0 (pos 0)) z
-
 -- ---- the tape of a plan that starts from zeroed scratch
 
 -- the plan, for any tag and any end
@@ -87,18 +71,13 @@ delivered t countsUsed marksUsed o k m =
     (outcome (Planned (length t)) (t ++ drop (length t) o) (zeroed countsUsed k) (zeroed marksUsed m))
     (outcome (Refused 12 0) (replicate (length o) 0) (zeroed countsUsed k) (zeroed marksUsed m))
 
--- Questions 8 to 12 for a sheet of so many cells. "Numbers 1 to 11 touch no memory."
+-- Questions 8 to 11, then 12, for a sheet of so many cells: the first no, or the plan. "Numbers 1 to 11 touch no memory."
 unfoldable pub soundOutcome : Sheet → ℕ → Query → List ℕ → List ℕ → List ℕ → Outcome
 soundOutcome S cells q o k m =
-    cond (viewOk (q .view))
-    (cond (zoomOk (q .zoom))
-    (cond (leb (q .depth) maxDepth)
-    (cond (leb (countsNamed cells (q .depth)) (length k) && leb (marksNamed cells (q .depth)) (length m))
+    let refusal = queryRefusal (q .view) (q .zoom) (q .depth) cells (length k) (length m) in
+    cond (eqb refusal 0)
     (delivered (tapeOf S cells q) (countsNamed cells (q .depth)) (marksNamed cells (q .depth)) o k m)
-    (outcome (Refused 11 0) o k m))
-    (outcome (Refused 10 0) o k m))
-    (outcome (Refused 9 0) o k m))
-    (outcome (Refused 8 0) o k m)
+    (outcome (Refused refusal 0) o k m)
 
 -- Questions 1 to 7 by the sheet's own check, then the others
 abbrev pub checkedOutcome : Checked → Sheet → Query → List ℕ → List ℕ → List ℕ → Outcome

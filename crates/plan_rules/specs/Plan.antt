@@ -8,6 +8,7 @@ use Rattle.geometry.specs.declared.bbox.Bounds.the-variants.{Absent, Box}
 use Rattle.geometry.specs.Placement.{IDENTITY}
 use Rattle.geometry.specs.Bbox.{overlaps, bbox}
 use Rattle.abstract_sheet.specs.Sheet.{CellRecord, Sheet}
+use Rattle.plan_rules.specs.declared.Reason.the-variants as reason
 use Rattle.plan_rules.specs.Event.{Event, totals, Step}
 use Rattle.plan_rules.specs.World.{Query, World}
 use Rattle.plan_rules.specs.Push.{say, addLoad}
@@ -17,7 +18,7 @@ module _ {P A : Type 0} (enter : Step → P → P) (emit : P → Event → ℕ �
   -- "Depth 0 gives just one proxy if the root has a box that overlaps the view", labelled by the root.
   unfoldable pub loadRootBox : P → Bounds → World A → World A
   loadRootBox t Absent w = w
-  loadRootBox t (Box a b c d) w = cond (overlaps (bbox a b c d) (q .view)) (addLoad enter emit t (q .root) (bbox a b c d) w) w
+  loadRootBox t (Box a b c d) w = cond (overlaps (bbox a b c d) (q .view)) (addLoad enter emit t reason.DepthZero (q .root) (bbox a b c d) w) w
 
   unfoldable pub loadRoot : P → Option CellRecord → World A → World A
   loadRoot t none w = w

@@ -16,14 +16,13 @@ use Rattle.geometry.specs.Bbox.{transformBbox, overlaps, pointInBbox, bbox}
 use Rattle.geometry.specs.Screen.{screenSize, isSubpixel, isDenseBatch}
 use Rattle.records.specs.declared.PreparedGeometry.{PreparedGeometry}
 use Rattle.records.specs.declared.PreparedText.{PreparedText}
+use Rattle.records.specs.Sources.{noLabel}
 use Rattle.abstract_sheet.specs.Sheet.{NodeRecord, Sheet}
+use Rattle.plan_rules.specs.declared.Reason.{Reason}
+use Rattle.plan_rules.specs.declared.Reason.the-variants as reason
 use Rattle.plan_rules.specs.Limits.{maxLoadProxies}
 use Rattle.plan_rules.specs.Event.{Event, batch, text, point, proxy, droppedProxy, skippedBatch, culledBatch, Step, pointAt, after}
 use Rattle.plan_rules.specs.World.{Query, hides, detailBudgetExhausted, World, world, Flow, go, halt, each}
-
--- "or FFFFFFFF (hexadecimal) for none"
-abbrev pub noLabel : ℕ
-noLabel = 0xffff_ffff
 
 module _ {P A : Type 0} (enter : Step → P → P) (emit : P → Event → ℕ → A → A) where
   -- an event, sent on with the tape's end
@@ -31,13 +30,13 @@ module _ {P A : Type 0} (enter : Step → P → P) (emit : P → Event → ℕ �
   say t e w = world (after e (w .state)) (emit t e (w .state .«tape_end») (w .out)) (w .counts) (w .marks)
 
   -- `add_load`
-  unfoldable pub addLoad : P → ℕ → WorldBBox → World A → World A
-  addLoad t label box w = cond (ltb (w .state .«load_proxies») maxLoadProxies) (say t (proxy label box) w) (say t (droppedProxy label box) w)
+  unfoldable pub addLoad : P → Reason → ℕ → WorldBBox → World A → World A
+  addLoad t why label box w = cond (ltb (w .state .«load_proxies») maxLoadProxies) (say t (proxy why label box) w) (say t (droppedProxy why label box) w)
 
   -- `if let Some(bbox) = world_bbox { self.add_load(bbox, ..) }`
-  abbrev pub addLoadIfBoxed : P → ℕ → Bounds → World A → World A
-  addLoadIfBoxed t label Absent w = w
-  addLoadIfBoxed t label (Box a b c d) w = addLoad t label (bbox a b c d) w
+  abbrev pub addLoadIfBoxed : P → Reason → ℕ → Bounds → World A → World A
+  addLoadIfBoxed t why label Absent w = w
+  addLoadIfBoxed t why label (Box a b c d) w = addLoad t why label (bbox a b c d) w
 
   module _ (S : Sheet) (q : Query) where
     -- `push_geometry` of a batch that is there. (A number that names no batch lists nothing; no sheet that passes question 7 has one.)
@@ -49,8 +48,8 @@ module _ {P A : Type 0} (enter : Step → P → P) (emit : P → Event → ℕ �
         cond (hides q (g .layer) (g .«data_type»)) w
         (cond (not (overlaps box (q .view))) (say t culledBatch w)
         (cond (isSubpixel size) (say t (skippedBatch box) w)
-        (cond (isDenseBatch size (g .«element_count»)) (addLoad t noLabel box w)
-        (cond (detailBudgetExhausted q (w .state)) (addLoad t noLabel box w)
+        (cond (isDenseBatch size (g .«element_count»)) (addLoad t reason.DenseBatch noLabel box w)
+        (cond (detailBudgetExhausted q (w .state)) (addLoad t reason.OtherLimit noLabel box w)
         (say t (batch n p) w)))))
 
     unfoldable pub pushGeometry : P → ℕ → Placement → World A → World A

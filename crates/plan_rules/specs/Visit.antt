@@ -2,7 +2,7 @@
 -- Document 01: "Visiting follows `visit_cell`, `visit_reference` and `visit_source`, where depth falls by one."
 -- Only the visit of a reference recurses, on the depth; the other two are given how a reference is visited.
 -- Definitions only; rests on geometry's definitions, the abstract sheet, `DrawUnits` and `Push`.
-use mathlib.Core.Bool.{Bool, false, not, cond}
+use mathlib.Core.Bool.{false, not, cond}
 use mathlib.Core.Option.{Option, none, some}
 use Prim.Native.Nat.{ℕ, zero, suc, _/_, max}
 use lib.Dec.{eqb}
@@ -10,54 +10,49 @@ use Rattle.geometry.specs.declared.bbox.WorldBBox.{WorldBBox}
 use Rattle.geometry.specs.declared.bbox.Bounds.{Bounds}
 use Rattle.geometry.specs.declared.bbox.Bounds.the-variants.{Absent, Box}
 use Rattle.geometry.specs.declared.placement.Placement.{Placement}
+use Rattle.geometry.specs.declared.screen.CollapseTest.{CollapseTest}
+use Rattle.geometry.specs.declared.screen.CollapseTest.the-variants as test
 use Rattle.geometry.specs.Placement.{_·_}
-use Rattle.geometry.specs.Bbox.{transformBbox, overlaps, sourceIsDegenerate, bbox, boxed}
+use Rattle.geometry.specs.Bbox.{transformBbox, overlaps, sourceIsDegenerate, transformBounds, isOutside, bbox}
 use Rattle.geometry.specs.Grid.{gridCount, gridMemberTransform, referenceBbox}
-use Rattle.geometry.specs.Screen.{referenceScreenSize, isSubpixel, shouldCollapseReference}
+use Rattle.geometry.specs.Screen.{referenceScreenSize, isSubpixel, collapseTest, collapses}
 use Rattle.records.specs.declared.PreparedSource.{PreparedSource}
 use Rattle.records.specs.declared.PreparedSource.the-variants.{Geometry, Text, Node, Reference, Cell}
 use Rattle.records.specs.declared.PreparedReference.{PreparedReference}
+use Rattle.records.specs.Sources.{label}
 use Rattle.abstract_sheet.specs.Sheet.{CellRecord, Sheet}
+use Rattle.plan_rules.specs.declared.Reason.{Reason}
+use Rattle.plan_rules.specs.declared.Reason.the-variants as reason
 use Rattle.plan_rules.specs.Event.{Event, skippedMember, culledReference, nodeGridLimit, detailCell, Step, batchAt, textAt, nodeAt, referenceAt, member}
 use Rattle.plan_rules.specs.World.{Query, detailCellsFull, detailBudgetExhausted, World, world, Flow, go, halt, bind, ending, each, setMark}
 use Rattle.plan_rules.specs.Scratch.{openPlace, isMarked}
 use Rattle.plan_rules.specs.DrawUnits.{Units, referenceDrawUnits}
-use Rattle.plan_rules.specs.Push.{noLabel, say, addLoad, addLoadIfBoxed, pushGeometry, pushText, pushNode}
+use Rattle.plan_rules.specs.Push.{say, addLoad, addLoadIfBoxed, pushGeometry, pushText, pushNode}
 
 -- ---- values
-
--- `reference.label`: "cell number as label, or FFFFFFFF (hexadecimal) for none"
-unfoldable pub label : PreparedSource → ℕ
-label (Geometry n) = noLabel
-label (Text n) = noLabel
-label (Node n) = noLabel
-label (Reference n) = noLabel
-label (Cell n) = n
-
--- `cell.bbox.map(|bbox| transform_bbox(transform, bbox))`
-abbrev pub transformBounds : Placement → Bounds → Bounds
-transformBounds p Absent = Absent
-transformBounds p (Box a b c d) = boxed (transformBbox p (bbox a b c d))
-
--- `world_bbox.is_some_and(|bbox| !bbox.overlaps(self.options.visible))`
-abbrev pub isOutside : Query → Bounds → Bool
-isOutside q Absent = false
-isOutside q (Box a b c d) = not (overlaps (bbox a b c d) (q .view))
 
 -- `draw_units.checked_div(grid_count).unwrap_or(1).max(1)`
 unfoldable pub sourceUnits : ℕ → ℕ → ℕ
 sourceUnits units count = max (cond (eqb count 0) 1 (units / count)) 1
 
+-- the reason that the first test met gives. (A reference that passes them all gets no box.)
+abbrev pub collapseReason : CollapseTest → Reason
+collapseReason test.Passed = reason.DenseReference
+collapseReason test.Depth = reason.DepthAtMostOne
+collapseReason test.Side = reason.SmallSide
+collapseReason test.Grid = reason.LargeGrid
+collapseReason test.Density = reason.DenseReference
+
 module _ {P A : Type 0} (enter : Step → P → P) (emit : P → Event → ℕ → A → A) where
   -- `push_node` was `false`: the cell's box is added, and the visit of the cell is over
   abbrev pub haltWithCell : P → ℕ → Bounds → Flow A → Flow A
   haltWithCell t n box (go w) = go w
-  haltWithCell t n box (halt w) = halt (addLoadIfBoxed enter emit t n box w)
+  haltWithCell t n box (halt w) = halt (addLoadIfBoxed enter emit t reason.OtherLimit n box w)
 
   -- `visit_source` was `false`: the member's box is added, and the visit of the reference is over. Only a node's visit is `false`.
   abbrev pub haltWithMember : P → ℕ → WorldBBox → Flow A → Flow A
   haltWithMember t l box (go w) = go w
-  haltWithMember t l box (halt w) = halt (say enter emit t nodeGridLimit (addLoad enter emit t l box w))
+  haltWithMember t l box (halt w) = halt (say enter emit t nodeGridLimit (addLoad enter emit t reason.OtherLimit l box w))
 
   -- the scratch as a count leaves it
   abbrev pub withScratch : Units → World A → World A
@@ -76,22 +71,22 @@ module _ {P A : Type 0} (enter : Step → P → P) (emit : P → Event → ℕ �
     module _ (t : P) (n : ℕ) (c : CellRecord) (p : Placement) (box : Bounds) where
       unfoldable pub geometryStep : ℕ → World A → Flow A
       geometryStep i w =
-          cond (detailBudgetExhausted q (w .state)) (halt (addLoadIfBoxed enter emit t n box w))
+          cond (detailBudgetExhausted q (w .state)) (halt (addLoadIfBoxed enter emit t reason.OtherLimit n box w))
           (go (pushGeometry enter emit S q (enter (batchAt i) t) (c .geometries .at i) p w))
 
       unfoldable pub textStep : ℕ → World A → Flow A
       textStep i w =
-          cond (detailBudgetExhausted q (w .state)) (halt (addLoadIfBoxed enter emit t n box w))
+          cond (detailBudgetExhausted q (w .state)) (halt (addLoadIfBoxed enter emit t reason.OtherLimit n box w))
           (go (pushText enter emit S q (enter (textAt i) t) (c .texts .at i) p w))
 
       unfoldable pub nodeStep : ℕ → World A → Flow A
       nodeStep i w =
-          cond (detailBudgetExhausted q (w .state)) (halt (addLoadIfBoxed enter emit t n box w))
+          cond (detailBudgetExhausted q (w .state)) (halt (addLoadIfBoxed enter emit t reason.OtherLimit n box w))
           (haltWithCell t n box (pushNode enter emit S q (enter (nodeAt i) t) (c .nodes .at i) p w))
 
       unfoldable pub referenceStep : VisitReference → ℕ → World A → Flow A
       referenceStep visit i w =
-          cond (detailBudgetExhausted q (w .state)) (halt (addLoadIfBoxed enter emit t n box w))
+          cond (detailBudgetExhausted q (w .state)) (halt (addLoadIfBoxed enter emit t reason.OtherLimit n box w))
           (go (visit (enter (referenceAt i) t) (c .references .at i) p w))
 
       unfoldable pub cellBody : VisitReference → World A → Flow A
@@ -106,10 +101,10 @@ module _ {P A : Type 0} (enter : Step → P → P) (emit : P → Event → ℕ �
     visitFoundCell visit t n p none w = w
     visitFoundCell visit t n p (some c) w =
         let box = transformBounds p (c .bbox) in
-        cond (isOutside q box) w
-        (cond (detailCellsFull (w .state)) (addLoadIfBoxed enter emit t n box w)
-        (cond (detailBudgetExhausted q (w .state)) (addLoadIfBoxed enter emit t n box w)
-        (cond (isMarked (w .marks) (openPlace cells n)) (addLoadIfBoxed enter emit t n box w)
+        cond (isOutside box (q .view)) w
+        (cond (detailCellsFull (w .state)) (addLoadIfBoxed enter emit t reason.CellLimit n box w)
+        (cond (detailBudgetExhausted q (w .state)) (addLoadIfBoxed enter emit t reason.OtherLimit n box w)
+        (cond (isMarked (w .marks) (openPlace cells n)) (addLoadIfBoxed enter emit t reason.Circle n box w)
         (setMark (openPlace cells n) 0 (ending (cellBody t n c p box visit (say enter emit t detailCell (setMark (openPlace cells n) 1 w))))))))
 
     -- ---- `visit_source`
@@ -130,11 +125,12 @@ module _ {P A : Type 0} (enter : Step → P → P) (emit : P → Event → ℕ �
           let placement = p · gridMemberTransform (r .grid) column row in
           let box = transformBbox placement sourceBox in
           let size = referenceScreenSize box (q .zoom) (sourceIsDegenerate sourceBox) in
+          let test = collapseTest (size .width) (size .height) 1 units depth false in
           let here = enter (member column row) t in
-          cond (detailBudgetExhausted q (w .state)) (halt (addLoad enter emit t (label (r .source)) worldBox w))
+          cond (detailBudgetExhausted q (w .state)) (halt (addLoad enter emit t reason.OtherLimit (label (r .source)) worldBox w))
           (cond (not (overlaps box (q .view))) (go (say enter emit here culledReference w))
           (cond (isSubpixel size) (go (say enter emit here (skippedMember (sourceIsDegenerate sourceBox) box) w))
-          (cond (shouldCollapseReference (size .width) (size .height) 1 units depth false) (go (addLoad enter emit here (label (r .source)) box w))
+          (cond (collapses test) (go (addLoad enter emit here (collapseReason test) (label (r .source)) box w))
           (haltWithMember here (label (r .source)) box (visit here (r .source) placement w)))))
 
       unfoldable pub columnStep : ℕ → ℕ → World A → Flow A
@@ -144,36 +140,37 @@ module _ {P A : Type 0} (enter : Step → P → P) (emit : P → Event → ℕ �
       unfoldable pub visitCountedReference : Units → World A → World A
       visitCountedReference u w =
           let size = referenceScreenSize worldBox (q .zoom) (sourceIsDegenerate sourceBox) in
-          cond (shouldCollapseReference (size .width) (size .height) (gridCount (r .grid)) (u .units) depth false)
-          (addLoad enter emit t (label (r .source)) worldBox (withScratch u w))
+          let test = collapseTest (size .width) (size .height) (gridCount (r .grid)) (u .units) depth false in
+          cond (collapses test)
+          (addLoad enter emit t (collapseReason test) (label (r .source)) worldBox (withScratch u w))
           (ending (each (columnStep (sourceUnits (u .units) (gridCount (r .grid)))) (r .grid .columns) 0 (withScratch u w)))
 
     -- `let Some(local_bbox) = reference_bbox(..) else { return; }` and what follows
-    unfoldable pub visitBoxedReference : VisitSource → ℕ → P → ℕ → PreparedReference → Placement → WorldBBox → Bounds → World A → World A
-    visitBoxedReference visit depth t n r p sourceBox Absent w = w
-    visitBoxedReference visit depth t n r p sourceBox (Box a b c d) w =
+    unfoldable pub visitBoxedReference : VisitSource → ℕ → P → PreparedReference → Placement → WorldBBox → Bounds → World A → World A
+    visitBoxedReference visit depth t r p sourceBox Absent w = w
+    visitBoxedReference visit depth t r p sourceBox (Box a b c d) w =
         let worldBox = transformBbox p (bbox a b c d) in
         cond (not (overlaps worldBox (q .view))) (say enter emit t culledReference w)
-        (cond (detailCellsFull (w .state)) (addLoad enter emit t (label (r .source)) worldBox w)
-        (cond (detailBudgetExhausted q (w .state)) (addLoad enter emit t (label (r .source)) worldBox w)
-        (visitCountedReference visit depth t r p sourceBox worldBox (referenceDrawUnits S cells depth n (w .counts) (w .marks)) w)))
+        (cond (detailCellsFull (w .state)) (addLoad enter emit t reason.CellLimit (label (r .source)) worldBox w)
+        (cond (detailBudgetExhausted q (w .state)) (addLoad enter emit t reason.OtherLimit (label (r .source)) worldBox w)
+        (visitCountedReference visit depth t r p sourceBox worldBox (referenceDrawUnits S cells depth r (w .counts) (w .marks)) w)))
 
     -- `let Some(source_bbox) = reference.source_bbox else { return; }`
-    unfoldable pub visitSourcedReference : VisitSource → ℕ → P → ℕ → PreparedReference → Placement → Bounds → World A → World A
-    visitSourcedReference visit depth t n r p Absent w = w
-    visitSourcedReference visit depth t n r p (Box a b c d) w =
-        visitBoxedReference visit depth t n r p (bbox a b c d) (referenceBbox (r .grid) (bbox a b c d)) w
+    unfoldable pub visitSourcedReference : VisitSource → ℕ → P → PreparedReference → Placement → Bounds → World A → World A
+    visitSourcedReference visit depth t r p Absent w = w
+    visitSourcedReference visit depth t r p (Box a b c d) w =
+        visitBoxedReference visit depth t r p (bbox a b c d) (referenceBbox (r .grid) (bbox a b c d)) w
 
     -- (A number that names no reference is passed over; no sheet that passes question 7 has one.)
-    unfoldable pub visitFoundReference : VisitSource → ℕ → P → ℕ → Placement → Option PreparedReference → World A → World A
-    visitFoundReference visit depth t n p none w = w
-    visitFoundReference visit depth t n p (some r) w = visitSourcedReference visit depth t n r p (r .«source_bbox») w
+    unfoldable pub visitFoundReference : VisitSource → ℕ → P → Placement → Option PreparedReference → World A → World A
+    visitFoundReference visit depth t p none w = w
+    visitFoundReference visit depth t p (some r) w = visitSourcedReference visit depth t r p (r .«source_bbox») w
 
     -- ---- the three visits. At depth 0, as at depth 1, a reference collapses and no source is visited.
 
     unfoldable pub visitReference : ℕ → VisitReference
-    visitReference zero t n p w = visitFoundReference (λ t s p w. go w) 0 t n p (S .reference n) w
-    visitReference (suc depth) t n p w = visitFoundReference (visitSourceWith (visitReference depth)) (suc depth) t n p (S .reference n) w
+    visitReference zero t n p w = visitFoundReference (λ t s p w. go w) 0 t p (S .reference n) w
+    visitReference (suc depth) t n p w = visitFoundReference (visitSourceWith (visitReference depth)) (suc depth) t p (S .reference n) w
 
     unfoldable pub visitSource : ℕ → VisitSource
     visitSource depth = visitSourceWith (visitReference depth)

@@ -1,5 +1,6 @@
 // What a plan passes on by value: the totals with the tape's end, the query without its hidden layers, and the answer of a call.
 // No code: the rules themselves are in specs/.
+use check_sheet::Counts;
 use geometry::bbox::WorldBBox;
 
 // The tape's end, the texts and proxies listed so far, and the six totals of `SceneStats` in its field order.
@@ -22,6 +23,26 @@ pub struct SceneOptions {
     pub depth: u32,
     pub view: WorldBBox,
     pub zoom: f64,
+}
+
+// What does not change during a plan: the query without its hidden layers, the object limit, and how many records of each kind the sheet has.
+pub struct Fixed {
+    pub options: SceneOptions,
+    pub object_limit: u64,
+    pub counts: Counts,
+}
+
+// Why a box was made: document 02's nine reasons, in its order and with its numbers.
+pub enum Reason {
+    DepthZero, // 1
+    CellLimit, // 2
+    OtherLimit, // 3
+    Circle, // 4
+    DepthAtMostOne, // 5
+    SmallSide, // 6
+    LargeGrid, // 7
+    DenseReference, // 8
+    DenseBatch, // 9
 }
 
 // What a call answers: the tape's length in bytes, or a refusal's number and offset.

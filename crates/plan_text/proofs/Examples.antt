@@ -7,10 +7,10 @@ use Prim.Native.Nat.{ℕ}
 use lib.ListN.{replicate}
 use Rattle.fields.specs.Field.{uintBytes}
 use Rattle.geometry.specs.Placement.{IDENTITY}
-use Rattle.plan_rules.specs.Event.{Event, batch, text, point, proxy, totals, scenePlan}
-use Rattle.plan_rules.specs.Push.{noLabel}
-use Rattle.plan_rules.specs.Tape.{encode}
-use Rattle.plan_rules.proofs.Cases.Samples.{spot, page}
+use Rattle.records.specs.Sources.{noLabel}
+use Rattle.plan_rules.specs.declared.Reason.the-variants as reason
+use Rattle.plan_rules.specs.Event.{Event, batch, text, point, proxy, totals, encode, scenePlan}
+use Rattle.plan_rules.specs.Samples.{spot, page}
 use Rattle.plan_text.specs.Ascii.{ascii}
 use Rattle.plan_text.specs.Text.{decimal, hexadecimal, lineOf, refusedLine, linesFrom}
 use Rattle.plan_text.specs.Query.{wholeQuery, hiddenLayers}
@@ -38,12 +38,12 @@ pub point-line : lineOf (encode (point 255 65535 (spot 10 20))) ≡ ascii "point
 unfolding openedText
 point-line = refl
 
-pub proxy-line : lineOf (encode (proxy 4095 (page 10 20))) ≡ ascii "proxy 4095 0000000000000000 0000000000000000 4024000000000000 4034000000000000\n"
+pub proxy-line : lineOf (encode (proxy reason.CellLimit 4095 (page 10 20))) ≡ ascii "proxy 4095 0000000000000000 0000000000000000 4024000000000000 4034000000000000\n"
 unfolding openedText
 proxy-line = refl
 
 -- "an absent label as `none`"
-pub unlabelled-line : lineOf (encode (proxy noLabel (page 10 20))) ≡ ascii "proxy none 0000000000000000 0000000000000000 4024000000000000 4034000000000000\n"
+pub unlabelled-line : lineOf (encode (proxy reason.DenseBatch noLabel (page 10 20))) ≡ ascii "proxy none 0000000000000000 0000000000000000 4024000000000000 4034000000000000\n"
 unfolding openedText
 unlabelled-line = refl
 

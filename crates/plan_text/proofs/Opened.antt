@@ -3,7 +3,7 @@
 use Prim.Native.Nat.{ℕ}
 use Rattle.fields.specs.Field.{uintAt, uintBytes, f64At, f64Bytes, recordBytes}
 use Rattle.walk.specs.Offsets.{offsetsIn, offsetsFrom}
-use Rattle.plan_rules.specs.Tape.{encode}
+use Rattle.plan_rules.specs.Event.{encode}
 use Rattle.plan_rules.proofs.Cases.Opened.{opened}
 use Rattle.plan_text.specs.Text.{digit, digits, decimalSizeIn, decimalSize, decimal, hexadecimal, number, float, labelText, eachField, lineOf, nextRecord, linesAt, linesFrom}
 use Rattle.plan_text.specs.Query.{wholeQuery, optionsAt, hiddenCount, layersFrom, hiddenLayers, queryRecord, readQuery}

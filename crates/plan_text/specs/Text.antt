@@ -1,7 +1,7 @@
 -- What the program `plan` prints, as bytes: the digits of a number, one line for each record of the tape, and for a refusal.
 -- Document 01, "The program `plan`": "Other items print in tape order with their fields, as `batch`, `point` and `proxy`: floats as
 -- 16 hexadecimal digits, all else decimal, an absent label as `none`. A refusal prints `refused`, number, offset."
--- Definitions only; rests on the fields' and the walk's definitions and the rules' absent label.
+-- Definitions only; rests on the fields', the walk's and the records' definitions.
 use mathlib.Core.Bool.{cond}
 use mathlib.Core.List.{List, [], _∷_, _++_}
 use Prim.Native.Nat.{ℕ, zero, suc, _+_, _/_, _%_}
@@ -9,7 +9,7 @@ use lib.ListN.{length, drop}
 use lib.Dec.{ltb, eqb}
 use Rattle.fields.specs.Field.{uintAt}
 use Rattle.walk.specs.Offsets.{lengthAt, kindAt, offsetsFrom}
-use Rattle.plan_rules.specs.Push.{noLabel}
+use Rattle.records.specs.Sources.{noLabel}
 use Rattle.plan_text.specs.Ascii.{ascii}
 
 -- ---- numbers

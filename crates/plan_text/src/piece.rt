@@ -2,12 +2,11 @@
 // A writer's caller keeps room, and is told where the piece ends.
 use crate::number::put_decimal;
 use crate::number::put_hexadecimal;
+use records::NO_LABEL;
 ghost use Prim.Native.Nat.{_+_, _*_, _≤_, _<_};
 ghost use lib.ListN.{length};
 ghost use Rattle.plan_text.specs.Text.{number, float, labelText, eachField};
 ghost use Rattle.plan_text.specs.Written.{Written};
-
-const NO_LABEL: u32 = 0xFFFF_FFFF;
 
 pub fn put_word(text: &mut [u8], at: usize, word: &[u8]) -> usize
     requires { ⌜ at + length (now word) ≤ length (now text) ⌝ }

@@ -1,6 +1,8 @@
-// Replays the stored answers of the Rust planner: it reads the cases of oracle/stored/cases.bin on standard input, answers each input
-// by the functions of the program `plan`, compares the text byte by byte, and prints by the first word of the expected text how many
-// passed and how many failed. A case that fails is named by its number.
+// Replays the stored answers of the Rust planner: it reads the cases that the judge stores in crates/plan_vectors/stdin, answers each
+// input by the functions of the program `plan`, compares the text byte by byte, and prints by the first word of the expected text how
+// many passed and how many failed, and before that the first of these answers as `plan` prints it. A case that fails is named by its
+// number. Before the replay it prints the answers that no stored case has: to too many cells, and where too little is lent.
+// The lent memory is not cleared between inputs: no answer depends on what it held.
 // A case: length of the input, length of the text (4 bytes each), the input, the text.
 use libc::STDIN_FILENO;
 use libc::STDOUT_FILENO;
@@ -25,6 +27,10 @@ struct Tally {
     failed: u64,
 }
 
+// The length of the query that stands before too many cells, and the end of these cells: 4,097 of 56 bytes each.
+const QUERY: usize = 54;
+
+const MANY_CELLS: usize = 229486;
 // The number of first words that are told apart.
 const WORDS: u64 = 8;
 
@@ -112,6 +118,117 @@ fn is_expected(expected: &[u8], text: &mut [u8], printed: Printed, tape: &[u8]) 
     read == expected.len()
 }
 
+// ---- answers that no stored case has
+
+// Prints the answer to an input as `plan` does, behind a word on the input.
+fn print_input(
+    word: &[u8],
+    input: &[u8],
+    hidden: &mut [u32],
+    tape: &mut [u8],
+    counts: &mut [u64],
+    marks: &mut [u8],
+    text: &mut [u8],
+)
+    requires { ⌜ lineRoom ≤ length (now text) ⌝ }
+{
+    io::write_all(STDOUT_FILENO, word);
+    let printed = plan_answer::answer(input, hidden, tape, counts, marks);
+    plan_answer::print_answer(text, printed, tape);
+}
+
+// An input that fills its buffer.
+fn print_filled(
+    buffer: &[u8],
+    hidden: &mut [u32],
+    tape: &mut [u8],
+    counts: &mut [u64],
+    marks: &mut [u8],
+    text: &mut [u8],
+)
+    requires { ⌜ lineRoom ≤ length (now text) ⌝ }
+{
+    io::write_all(STDOUT_FILENO, b"no room for the input: ");
+    let printed = plan_answer::answer_read(buffer, buffer.len(), hidden, tape, counts, marks);
+    plan_answer::print_answer(text, printed, tape);
+}
+
+// Puts a query and 4,097 empty cells, one more than a sheet may have, into a buffer of zeros. Gives their end.
+fn put_many_cells(room: &mut [u8]) -> usize {
+    fields::put_u32(room, 0, 54);
+    fields::put_u16(room, 4, 20);
+    let mut at = QUERY;
+    while at < MANY_CELLS {
+        fields::put_u32(room, at, 56);
+        fields::put_u16(room, at + 4, 5);
+        at += 56;
+    }
+    at
+}
+
+fn print_many_cells(
+    room: &mut [u8],
+    hidden: &mut [u32],
+    tape: &mut [u8],
+    counts: &mut [u64],
+    marks: &mut [u8],
+    text: &mut [u8],
+)
+    requires { ⌜ lineRoom ≤ length (now text) ⌝ }
+{
+    let end = put_many_cells(room);
+    if end <= room.len() {
+        print_input(
+            b"4,097 cells: ",
+            &room[..end],
+            hidden,
+            tape,
+            counts,
+            marks,
+            text,
+        );
+    }
+}
+
+// The same cells behind a query with a hidden layer, without room for it and without room for the input.
+fn print_hidden_layer(
+    room: &mut [u8],
+    hidden: &mut [u32],
+    tape: &mut [u8],
+    counts: &mut [u64],
+    marks: &mut [u8],
+    text: &mut [u8],
+)
+    requires { ⌜ lineRoom ≤ length (now text) ⌝ }
+{
+    fields::put_u32(room, 0, 58);
+    print_input(
+        b"no room for hidden layers: ",
+        room,
+        &mut hidden[..0],
+        tape,
+        counts,
+        marks,
+        text,
+    );
+    print_filled(room, hidden, tape, counts, marks, text);
+}
+
+// Inputs that are refused, or too long, for their size.
+fn print_long(
+    room: &mut [u8],
+    hidden: &mut [u32],
+    tape: &mut [u8],
+    counts: &mut [u64],
+    marks: &mut [u8],
+    text: &mut [u8],
+)
+    requires { ⌜ lineRoom ≤ length (now text) ⌝ }
+{
+    print_many_cells(room, hidden, tape, counts, marks, text);
+    print_hidden_layer(room, hidden, tape, counts, marks, text);
+}
+
 // ---- the replay
 
 fn say(t: Tally) {
@@ -169,7 +286,19 @@ fn counted(t: Tally, passed: bool) -> Tally {
     }
 }
 
-// Runs a case where its text begins with the word.
+// Prints the answer where none was counted before.
+fn print_if_first(t: Tally, text: &mut [u8], printed: Printed, tape: &[u8])
+    requires { ⌜ tapeEnd printed ≤ length (now tape) ⌝ }
+    requires { ⌜ lineRoom ≤ length (now text) ⌝ }
+{
+    if t.passed == 0 {
+        if t.failed == 0 {
+            plan_answer::print_answer(text, printed, tape);
+        }
+    }
+}
+
+// Runs a case where its text begins with the word, and prints the answer to the first of them.
 fn compare_one(
     input: &[u8],
     expected: &[u8],
@@ -192,6 +321,7 @@ fn compare_one(
     if !passed {
         say_wrong(number);
     }
+    print_if_first(t, text, printed, tape);
     counted(t, passed)
 }
 
@@ -261,6 +391,49 @@ fn compare_all(
     say(Tally { passed, failed });
 }
 
+// The first case, a plan, answered where no tape is lent.
+fn print_first(
+    cases: &[u8],
+    hidden: &mut [u32],
+    tape: &mut [u8],
+    counts: &mut [u64],
+    marks: &mut [u8],
+    text: &mut [u8],
+)
+    requires { ⌜ lineRoom ≤ length (now text) ⌝ }
+{
+    if cases.len() == 0 {
+        return;
+    }
+    let c = case_at(cases, 0);
+    let input = c.input;
+    let expected = c.expected;
+    print_input(
+        b"no room for the tape: ",
+        &cases[input..expected],
+        hidden,
+        &mut tape[..0],
+        counts,
+        marks,
+        text,
+    );
+}
+
+// What the cases are for, once they are read.
+fn replay(
+    cases: &[u8],
+    hidden: &mut [u32],
+    tape: &mut [u8],
+    counts: &mut [u64],
+    marks: &mut [u8],
+    text: &mut [u8],
+)
+    requires { ⌜ lineRoom ≤ length (now text) ⌝ }
+{
+    print_first(cases, hidden, tape, counts, marks, text);
+    compare_all(cases, hidden, tape, counts, marks, text);
+}
+
 // Reads the cases, which must leave room in their buffer.
 fn run(
     cases: &mut [u8],
@@ -277,7 +450,8 @@ fn run(
         io::write_all(STDOUT_FILENO, b"the cases are too long\n");
         return;
     }
-    compare_all(&cases[..n], hidden, tape, counts, marks, text);
+    print_long(&mut cases[n..], hidden, tape, counts, marks, text);
+    replay(&cases[..n], hidden, tape, counts, marks, text);
 }
 
 fn lend(cases: &mut [u8]) {

@@ -1,7 +1,5 @@
 -- Laws that the proofs about this crate's code cite, and what follows from the entry point's contract. Assumes nothing.
-pub mod View  -- question 8, by code path
-pub mod Scratch  -- question 11: no size of scratch wraps; by code path
 pub mod Answers  -- question 12, by code path
-pub mod Clean  -- the visits on zeroed scratch
+pub mod Sweep  -- the visits on zeroed scratch
 pub mod Delivered  -- the answer is the outcome that the rules define
 pub mod Corollaries  -- demand 3 of the bytes that `plan` writes

@@ -1,93 +1,42 @@
 // The entry point `plan`: `PreparedLibrary::plan` of bevy_scene.rs behind document 01's questions.
-use crate::ask::counts_named;
-use crate::ask::has_scratch;
-use crate::ask::marks_named;
-use crate::ask::view_ok;
-use crate::ask::zoom_ok;
+use crate::clean::visit_clean;
 use crate::finish::finish;
-use crate::root::visit_root;
-use crate::start::empty_plan;
 use check_sheet::Checked;
+use limits::MAX_SCENE_OBJECTS;
 use plan_rules::Answer;
+use plan_rules::Fixed;
 use plan_rules::SceneOptions;
-use plan_rules::ScenePlan;
 ghost use mathlib.Core.Path.{_≡_};
-ghost use lib.ListN.{length};
 ghost use Rattle.abstract_sheet.specs.Sheet.{sheetOf};
 ghost use Rattle.plan_rules.specs.Limits.{maxSceneObjects};
-ghost use Rattle.plan_rules.specs.World.{queryOf, world};
+ghost use Rattle.plan_rules.specs.World.{queryOf};
+ghost use Rattle.plan_rules.specs.OnTape.{fixedQuery};
 ghost use Rattle.plan_rules.specs.Outcome.{outcome, soundOutcome, outcomeOf};
-ghost use Rattle.planner.specs.Swept.{swept};
-
-const MAX_SCENE_OBJECTS: u64 = 20_000;
-
-const MAX_DEPTH: u32 = 32;
-
-// The visits on scratch that is zeroed before and after: a tape does not depend on what the scratch held.
-fn visit_clean(
-    sheet: &[u8],
-    cells: u32,
-    query: SceneOptions,
-    hidden: &[u32],
-    object_limit: u64,
-    out: &mut [u8],
-    counts: &mut [u64],
-    marks: &mut [u8],
-) -> ScenePlan
-    ensures { λ r. ⌜ world r (now (out .exit)) (now (counts .exit)) (now (marks .exit)) ≡ swept (sheetOf (now (sheet .entry))) cells (queryOf query (now (hidden .entry)) «object_limit») (now (out .entry)) (length (now (counts .entry))) (length (now (marks .entry))) ⌝ }
-{
-    tape::clear_counts(counts);
-    tape::clear_bytes(marks);
-    let plan = visit_root(
-        sheet,
-        cells,
-        query,
-        hidden,
-        object_limit,
-        out,
-        counts,
-        marks,
-        empty_plan(),
-    );
-    // "It and an accepted plan leave the named scratch places zero."
-    tape::clear_counts(counts);
-    tape::clear_bytes(marks); // the marks again
-    plan
-}
 
 // Questions 8 to 12, and the plan of a sheet that passed the questions before.
 fn plan_sound(
     sheet: &[u8],
-    cells: u32,
-    query: SceneOptions,
+    fixed: Fixed,
     hidden: &[u32],
-    object_limit: u64,
     out: &mut [u8],
     counts: &mut [u64],
     marks: &mut [u8],
 ) -> Answer
-    ensures { λ r. ⌜ outcome r (now (out .exit)) (now (counts .exit)) (now (marks .exit)) ≡ soundOutcome (sheetOf (now (sheet .entry))) cells (queryOf query (now (hidden .entry)) «object_limit») (now (out .entry)) (now (counts .entry)) (now (marks .entry)) ⌝ }
+    ensures { λ r. ⌜ outcome r (now (out .exit)) (now (counts .exit)) (now (marks .exit)) ≡ soundOutcome (sheetOf (now (sheet .entry))) (fixed .counts .cells) (fixedQuery fixed (now (hidden .entry))) (now (out .entry)) (now (counts .entry)) (now (marks .entry)) ⌝ }
 {
-    if !view_ok(query.view) {
-        return Answer::Refused(8, 0);
+    let cells = fixed.counts.cells;
+    let depth = fixed.options.depth;
+    let options = fixed.options;
+    let refusal = check_query::query_refusal(options, cells, counts.len(), marks.len());
+    if refusal != 0 {
+        return Answer::Refused(refusal, 0);
     }
-    if !zoom_ok(query.zoom) {
-        return Answer::Refused(9, 0);
-    }
-    if MAX_DEPTH < query.depth {
-        return Answer::Refused(10, 0);
-    }
-    if !has_scratch(cells, query.depth, counts.len(), marks.len()) {
-        return Answer::Refused(11, 0);
-    }
-    let counts_used = counts_named(cells, query.depth);
-    let marks_used = marks_named(cells, query.depth);
+    let counts_used = scratch::counts_named(cells, depth);
+    let marks_used = scratch::marks_named(cells, depth);
     let plan = visit_clean(
         sheet,
-        cells,
-        query,
+        fixed,
         hidden,
-        object_limit,
         out,
         &mut counts[..counts_used],
         &mut marks[..marks_used],
@@ -109,15 +58,13 @@ pub fn plan(
 {
     match check_sheet::check_sheet(sheet) {
         Checked::Refused(number, offset) => Answer::Refused(number, offset),
-        Checked::Sound(counted) => plan_sound(
-            sheet,
-            counted.cells,
-            query,
-            hidden,
-            MAX_SCENE_OBJECTS,
-            out,
-            counts,
-            marks,
-        ),
+        Checked::Sound(counted) => {
+            let fixed = Fixed {
+                options: query,
+                object_limit: MAX_SCENE_OBJECTS,
+                counts: counted,
+            };
+            plan_sound(sheet, fixed, hidden, out, counts, marks)
+        }
     }
 }

@@ -1,9 +1,9 @@
 // The planner: `plan` asks document 01's questions in order, visits the sheet from its root, and leaves the tape in the lent output.
 // Every function is total: any bytes, any query and any lent memory get an answer.
-pub mod ask; // questions 8, 9 and 11
-pub mod start; // the root's placement and the empty plan
-pub mod finish; // the totals, and question 12
+mod start; // the root's placement and the empty plan
+mod finish; // the totals, and question 12
 mod root; // the visit of the root
+mod clean; // the visits on zeroed scratch
 mod entry; // the entry point
 
 pub use entry::plan;

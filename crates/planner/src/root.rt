@@ -2,22 +2,21 @@
 use crate::start::identity;
 use geometry::bbox::Bounds;
 use geometry::bbox::WorldBBox;
-use plan_rules::SceneOptions;
+use plan_rules::Fixed;
+use plan_rules::Reason;
 use plan_rules::ScenePlan;
 use walk::Found;
 ghost use mathlib.Core.Path.{_≡_};
 ghost use mathlib.Core.List.{List};
 ghost use Prim.Native.Nat.{ℕ};
 ghost use Rattle.abstract_sheet.specs.Sheet.{sheetOf};
-ghost use Rattle.plan_rules.specs.World.{queryOf, world};
-ghost use Rattle.plan_rules.specs.Plan.{visitRoot};
-ghost use Rattle.plan_rules.specs.Tape.{noTag, onTape};
+ghost use Rattle.plan_rules.specs.OnTape.{Leaves, lent, visitRoot};
 
 // "Depth 0 gives just one proxy if the root has a box that overlaps the view."
-fn load_root(sheet: &[u8], query: SceneOptions, out: &mut [u8], plan: ScenePlan) -> ScenePlan
-    ensures { λ r. ⌜ ((cells limit : ℕ) (hidden k m : List ℕ) → world r (now (out .exit)) k m ≡ visitRoot noTag onTape (sheetOf (now (sheet .entry))) cells (queryOf query hidden limit) 0 tt (world plan (now (out .entry)) k m)) ⌝ }
+fn load_root(sheet: &[u8], fixed: Fixed, out: &mut [u8], plan: ScenePlan) -> ScenePlan
+    ensures { λ r. ⌜ ((hidden : List ℕ) → Leaves r (out .exit) (visitRoot (sheetOf (now (sheet .entry))) fixed hidden 0) plan (out .entry)) ⌝ }
 {
-    let Found::At(at) = walk::find(sheet, 5, query.root) else {
+    let Found::At(at) = look_up::look_up(sheet, 5, fixed.options.root) else {
         return plan;
     };
     let record = records::cell_at(sheet, at);
@@ -26,40 +25,36 @@ fn load_root(sheet: &[u8], query: SceneOptions, out: &mut [u8], plan: ScenePlan)
         return plan;
     };
     let bbox = WorldBBox::new(min_x, min_y, max_x, max_y);
-    if !bbox.overlaps(query.view) {
+    if !bbox.overlaps(fixed.options.view) {
         return plan;
     }
-    pushes::add_load(out, plan, query.root, bbox)
+    pushes::add_load(out, plan, Reason::DepthZero, fixed.options.root, bbox)
 }
 
 pub fn visit_root(
     sheet: &[u8],
-    cells: u32,
-    query: SceneOptions,
+    fixed: Fixed,
     hidden: &[u32],
-    object_limit: u64,
     out: &mut [u8],
     counts: &mut [u64],
     marks: &mut [u8],
     plan: ScenePlan,
 ) -> ScenePlan
-    ensures { λ r. ⌜ world r (now (out .exit)) (now (counts .exit)) (now (marks .exit)) ≡ visitRoot noTag onTape (sheetOf (now (sheet .entry))) cells (queryOf query (now (hidden .entry)) «object_limit») (query .depth) tt (world plan (now (out .entry)) (now (counts .entry)) (now (marks .entry))) ⌝ }
+    ensures { λ r. ⌜ lent r (out .exit) (counts .exit) (marks .exit) ≡ visitRoot (sheetOf (now (sheet .entry))) fixed (now (hidden .entry)) (fixed .options .depth) (lent plan (out .entry) (counts .entry) (marks .entry)) ⌝ }
 {
-    if query.depth == 0 {
-        return load_root(sheet, query, out, plan);
+    if fixed.options.depth == 0 {
+        return load_root(sheet, fixed, out, plan);
     }
     visits::visit_cell(
         sheet,
-        cells,
-        query,
+        fixed,
         hidden,
-        object_limit,
         out,
         counts,
         marks,
         plan,
-        query.root,
+        fixed.options.root,
         identity(),
-        query.depth,
+        fixed.options.depth,
     )
 }

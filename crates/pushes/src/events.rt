@@ -3,45 +3,34 @@
 use geometry::bbox::WorldBBox;
 use geometry::placement::DVec2;
 use geometry::placement::Placement;
+use limits::saturating_add;
+use plan_rules::Reason;
 use plan_rules::ScenePlan;
 ghost use mathlib.Core.Path.{_≡_};
 ghost use mathlib.Core.Bool.{Bool};
 ghost use mathlib.Core.List.{List};
 ghost use Prim.Native.Nat.{ℕ};
 ghost use Rattle.geometry.specs.declared.bbox.WorldBBox.{WorldBBox};
-ghost use Rattle.plan_rules.specs.Event.{_⊞_, batch, text, point, proxy, skippedMember, skippedBatch, culledReference, culledBatch, detailCell, totals};
+ghost use Rattle.plan_rules.specs.Event.{batch, text, point, proxy, skippedMember, skippedBatch, culledReference, culledBatch, detailCell, totals};
 ghost use Rattle.plan_rules.specs.World.{world};
-ghost use Rattle.plan_rules.specs.Push.{say};
-ghost use Rattle.plan_rules.specs.Tape.{noTag, onTape};
-
-// Totals stop at 2^64 - 1.
-fn saturating_add(a: u64, b: u64) -> u64
-    ensures { λ r. ⌜ r ≡ a ⊞ b ⌝ }
-{
-    if a <= 0xffff_ffff_ffff_ffff - b {
-        return a + b;
-    }
-    0xffff_ffff_ffff_ffff
-}
+ghost use Rattle.plan_rules.specs.OnTape.{Leaves, say};
 
 // ---- listed
 
 pub fn list_batch(out: &mut [u8], plan: ScenePlan, number: u32, placement: Placement) -> ScenePlan
-    ensures { λ r. ⌜ ((k m : List ℕ) → world r (now (out .exit)) k m ≡ say noTag onTape tt (batch number placement) (world plan (now (out .entry)) k m)) ⌝ }
+    ensures { λ r. ⌜ Leaves r (out .exit) (say (batch number placement)) plan (out .entry) ⌝ }
 {
-    tape::write_batch(out, plan.tape_end, number, placement);
     let mut next = plan;
-    next.tape_end = saturating_add(plan.tape_end, 58);
+    next.tape_end = tape::write_batch(out, plan.tape_end, number, placement);
     next.detail_objects = saturating_add(plan.detail_objects, 1);
     next
 }
 
 pub fn list_text(out: &mut [u8], plan: ScenePlan, number: u32, position: DVec2) -> ScenePlan
-    ensures { λ r. ⌜ ((k m : List ℕ) → world r (now (out .exit)) k m ≡ say noTag onTape tt (text number position) (world plan (now (out .entry)) k m)) ⌝ }
+    ensures { λ r. ⌜ Leaves r (out .exit) (say (text number position)) plan (out .entry) ⌝ }
 {
-    tape::write_text(out, plan.tape_end, number, position);
     let mut next = plan;
-    next.tape_end = saturating_add(plan.tape_end, 26);
+    next.tape_end = tape::write_text(out, plan.tape_end, number, position);
     next.texts = saturating_add(plan.texts, 1);
     next.detail_objects = saturating_add(plan.detail_objects, 1);
     next
@@ -54,38 +43,42 @@ pub fn list_point(
     node_type: u32,
     position: DVec2,
 ) -> ScenePlan
-    ensures { λ r. ⌜ ((k m : List ℕ) → world r (now (out .exit)) k m ≡ say noTag onTape tt (point layer «node_type» position) (world plan (now (out .entry)) k m)) ⌝ }
+    ensures { λ r. ⌜ Leaves r (out .exit) (say (point layer «node_type» position)) plan (out .entry) ⌝ }
 {
-    tape::write_point(out, plan.tape_end, layer, node_type, position);
     let mut next = plan;
-    next.tape_end = saturating_add(plan.tape_end, 26);
+    next.tape_end = tape::write_point(out, plan.tape_end, layer, node_type, position);
     next.detail_objects = saturating_add(plan.detail_objects, 1);
     next
 }
 
-pub fn list_proxy(out: &mut [u8], plan: ScenePlan, label: u32, bbox: WorldBBox) -> ScenePlan
-    ensures { λ r. ⌜ ((k m : List ℕ) → world r (now (out .exit)) k m ≡ say noTag onTape tt (proxy label bbox) (world plan (now (out .entry)) k m)) ⌝ }
+// The tape does not say why.
+pub fn list_proxy(
+    out: &mut [u8],
+    plan: ScenePlan,
+    why: Reason,
+    label: u32,
+    bbox: WorldBBox,
+) -> ScenePlan
+    ensures { λ r. ⌜ Leaves r (out .exit) (say (proxy why label bbox)) plan (out .entry) ⌝ }
 {
-    tape::write_proxy(out, plan.tape_end, label, bbox);
     let mut next = plan;
-    next.tape_end = saturating_add(plan.tape_end, 42);
+    next.tape_end = tape::write_proxy(out, plan.tape_end, label, bbox);
     next.load_proxies = saturating_add(plan.load_proxies, 1);
     next
 }
 
 pub fn list_totals(out: &mut [u8], plan: ScenePlan) -> ScenePlan
-    ensures { λ r. ⌜ ((k m : List ℕ) → world r (now (out .exit)) k m ≡ say noTag onTape tt (totals plan) (world plan (now (out .entry)) k m)) ⌝ }
+    ensures { λ r. ⌜ Leaves r (out .exit) (say (totals plan)) plan (out .entry) ⌝ }
 {
-    tape::write_totals(out, plan.tape_end, plan);
     let mut next = plan;
-    next.tape_end = saturating_add(plan.tape_end, 54);
+    next.tape_end = tape::write_totals(out, plan.tape_end, plan);
     next
 }
 
 // ---- counted only
 
 pub fn count_culled_reference(plan: ScenePlan) -> ScenePlan
-    ensures { λ r. ⌜ ((o k m : List ℕ) → world r o k m ≡ say noTag onTape tt culledReference (world plan o k m)) ⌝ }
+    ensures { λ r. ⌜ ((o k m : List ℕ) → world r o k m ≡ say culledReference (world plan o k m)) ⌝ }
 {
     let mut next = plan;
     next.culled_references = saturating_add(plan.culled_references, 1);
@@ -93,7 +86,7 @@ pub fn count_culled_reference(plan: ScenePlan) -> ScenePlan
 }
 
 pub fn count_skipped_member(plan: ScenePlan) -> ScenePlan
-    ensures { λ r. ⌜ ((degenerate : Bool) (box : WorldBBox) (o k m : List ℕ) → world r o k m ≡ say noTag onTape tt (skippedMember degenerate box) (world plan o k m)) ⌝ }
+    ensures { λ r. ⌜ ((degenerate : Bool) (box : WorldBBox) (o k m : List ℕ) → world r o k m ≡ say (skippedMember degenerate box) (world plan o k m)) ⌝ }
 {
     let mut next = plan;
     next.skipped_subpixel_references = saturating_add(plan.skipped_subpixel_references, 1);
@@ -101,7 +94,7 @@ pub fn count_skipped_member(plan: ScenePlan) -> ScenePlan
 }
 
 pub fn count_culled_batch(plan: ScenePlan) -> ScenePlan
-    ensures { λ r. ⌜ ((o k m : List ℕ) → world r o k m ≡ say noTag onTape tt culledBatch (world plan o k m)) ⌝ }
+    ensures { λ r. ⌜ ((o k m : List ℕ) → world r o k m ≡ say culledBatch (world plan o k m)) ⌝ }
 {
     let mut next = plan;
     next.culled_geometry_batches = saturating_add(plan.culled_geometry_batches, 1);
@@ -109,7 +102,7 @@ pub fn count_culled_batch(plan: ScenePlan) -> ScenePlan
 }
 
 pub fn count_skipped_batch(plan: ScenePlan) -> ScenePlan
-    ensures { λ r. ⌜ ((box : WorldBBox) (o k m : List ℕ) → world r o k m ≡ say noTag onTape tt (skippedBatch box) (world plan o k m)) ⌝ }
+    ensures { λ r. ⌜ ((box : WorldBBox) (o k m : List ℕ) → world r o k m ≡ say (skippedBatch box) (world plan o k m)) ⌝ }
 {
     let mut next = plan;
     next.skipped_subpixel_geometry_batches = saturating_add(
@@ -120,7 +113,7 @@ pub fn count_skipped_batch(plan: ScenePlan) -> ScenePlan
 }
 
 pub fn count_detail_cell(plan: ScenePlan) -> ScenePlan
-    ensures { λ r. ⌜ ((o k m : List ℕ) → world r o k m ≡ say noTag onTape tt detailCell (world plan o k m)) ⌝ }
+    ensures { λ r. ⌜ ((o k m : List ℕ) → world r o k m ≡ say detailCell (world plan o k m)) ⌝ }
 {
     let mut next = plan;
     next.detail_cells = saturating_add(plan.detail_cells, 1);

@@ -2,26 +2,18 @@
 // Every function is total. What it leaves of the plan and of the output is what the rules' definition of the same name says.
 use plan_rules::ScenePlan;
 
-mod limits; // the budget, and hidden layers
+mod hidden; // the hidden layers
 mod events; // what an event adds to the plan, and its record on the tape
 mod load; // proxies
 mod items; // batches, texts and nodes by number
 
-pub use events::count_culled_batch;
 pub use events::count_culled_reference;
 pub use events::count_detail_cell;
-pub use events::count_skipped_batch;
 pub use events::count_skipped_member;
-pub use events::list_batch;
-pub use events::list_point;
-pub use events::list_proxy;
-pub use events::list_text;
 pub use events::list_totals;
 pub use items::push_geometry;
 pub use items::push_node;
 pub use items::push_text;
-pub use limits::detail_budget_exhausted;
-pub use limits::is_hidden;
 pub use load::add_load;
 pub use load::add_load_if_boxed;
 

@@ -1,10 +1,12 @@
--- What stands in a record of a sheet, by the record's offset: document 01's table of the five kinds, field by field.
+-- What stands in a record of a sheet, by the record's offset: the fields of document 01's table, kind by kind.
 -- A byte past the end counts 0, so each definition has an answer at every offset. Definitions only. Assumes nothing.
 use Prim.Native.Nat.{ℕ, _+_, _-_, _*_, _/_, _%_, _^_}
 use mathlib.Core.List.{List}
 use mathlib.Core.Bool.{Bool, cond}
 use lib.Dec.{eqb}
 use Rattle.fields.specs.Field.{uintAt, f64At}
+use Rattle.records.specs.Format as field
+use Rattle.records.specs.Format.{f, geometry, text, node, reference, cell, offsetIn, endOf, fieldAt}
 use Rattle.geometry.specs.declared.placement.DVec2.{DVec2}
 use Rattle.geometry.specs.declared.bbox.WorldBBox.{WorldBBox}
 use Rattle.geometry.specs.declared.bbox.Bounds.{Bounds}
@@ -53,87 +55,88 @@ sourceOf kind number =
 
 -- ---- The five kinds
 
--- 1 batch: "layer 2, data type 2, element count 4, box 4 f"
+-- 1 batch
 unfoldable pub geometryAt : List ℕ → ℕ → PreparedGeometry
 geometryAt s at =
     record {
-      layer = uintAt 2 s (at + 6);
-      «data_type» = uintAt 2 s (at + 8);
-      «element_count» = uintAt 4 s (at + 10);
-      bbox = worldBBoxAt s (at + 14);
+      layer = fieldAt geometry field.layer s at;
+      «data_type» = fieldAt geometry field.dataType s at;
+      «element_count» = fieldAt geometry field.elementCount s at;
+      bbox = worldBBoxAt s (at + offsetIn geometry field.box);
     }
 
--- 2 text: "layer 2, data type 2, origin 2 f, 0 to 512 value bytes"
+-- 2 text
 unfoldable pub textAt : List ℕ → ℕ → PreparedText
 textAt s at =
     record {
-      layer = uintAt 2 s (at + 6);
-      «data_type» = uintAt 2 s (at + 8);
-      origin = dvec2At s (at + 10);
+      layer = fieldAt text field.layer s at;
+      «data_type» = fieldAt text field.dataType s at;
+      origin = dvec2At s (at + offsetIn text field.origin);
     }
 
--- 3 node: "layer 2, node type 2, 1 to 50 points of 2 f", length 10 + 16n
+-- 3 node: its points fill the rest of it, "2 f" each
+abbrev pub pointsOf : ℕ → ℕ
+pointsOf size = (size - endOf node) / (2 * f)
+
 unfoldable pub nodeAt : List ℕ → ℕ → PreparedNode
 nodeAt s at =
     record {
-      layer = uintAt 2 s (at + 6);
-      «node_type» = uintAt 2 s (at + 8);
-      points = (uintAt 4 s at - 10) / 16;
+      layer = fieldAt node field.layer s at;
+      «node_type» = fieldAt node field.nodeType s at;
+      points = pointsOf (uintAt 4 s at);
     }
 
 unfoldable pub nodePointAt : List ℕ → ℕ → ℕ → DVec2
-nodePointAt s at i = dvec2At s (at + (10 + 16 * i))
+nodePointAt s at i = dvec2At s (at + (endOf node + 2 * f * i))
 
--- 4 reference: "columns 2, rows 2, flags 2, source kind 2, source number 4, origin 2 f, spacing_x 2 f, spacing_y 2 f, magnification,
--- cos, sin, source box 4 f"; "bit 0 reflection, bit 1 source box present"
+-- 4 reference: "bit 0 reflection, bit 1 source box present"
 unfoldable pub gridAt : List ℕ → ℕ → Grid
 gridAt s at =
     record {
-      columns = uintAt 2 s (at + 6);
-      rows = uintAt 2 s (at + 8);
-      «x_reflection» = bit (uintAt 2 s (at + 10)) 0;
-      origin = dvec2At s (at + 18);
-      «spacing_x» = dvec2At s (at + 34);
-      «spacing_y» = dvec2At s (at + 50);
-      magnification = f64At s (at + 66);
-      cos = f64At s (at + 74);
-      sin = f64At s (at + 82);
+      columns = fieldAt reference field.columns s at;
+      rows = fieldAt reference field.rows s at;
+      «x_reflection» = bit (fieldAt reference field.flags s at) 0;
+      origin = dvec2At s (at + offsetIn reference field.origin);
+      «spacing_x» = dvec2At s (at + offsetIn reference field.spacingX);
+      «spacing_y» = dvec2At s (at + offsetIn reference field.spacingY);
+      magnification = f64At s (at + offsetIn reference field.magnification);
+      cos = f64At s (at + offsetIn reference field.cos);
+      sin = f64At s (at + offsetIn reference field.sin);
     }
 
 unfoldable pub referenceAt : List ℕ → ℕ → PreparedReference
 referenceAt s at =
     record {
       grid = gridAt s at;
-      source = sourceOf (uintAt 2 s (at + 12)) (uintAt 4 s (at + 14));
-      «source_bbox» = boundsAt s (at + 90) (bit (uintAt 2 s (at + 10)) 1);
+      source = sourceOf (fieldAt reference field.sourceKind s at) (fieldAt reference field.sourceNumber s at);
+      «source_bbox» = boundsAt s (at + offsetIn reference field.box) (bit (fieldAt reference field.flags s at) 1);
     }
 
--- 5 cell: "flags 2, direct draw units 8, box 4 f, counts of batches, texts, nodes, references 2 each, then their numbers 4 each";
--- "bit 0 box present"
+-- 5 cell: "bit 0 box present"
 unfoldable pub cellAt : List ℕ → ℕ → PreparedCell
 cellAt s at =
     record {
-      «direct_draw_units» = uintAt 8 s (at + 8);
-      bbox = boundsAt s (at + 16) (bit (uintAt 2 s (at + 6)) 0);
-      geometries = uintAt 2 s (at + 48);
-      texts = uintAt 2 s (at + 50);
-      nodes = uintAt 2 s (at + 52);
-      references = uintAt 2 s (at + 54);
+      «direct_draw_units» = fieldAt cell field.drawUnits s at;
+      bbox = boundsAt s (at + offsetIn cell field.box) (bit (fieldAt cell field.flags s at) 0);
+      geometries = fieldAt cell field.geometryCount s at;
+      texts = fieldAt cell field.textCount s at;
+      nodes = fieldAt cell field.nodeCount s at;
+      references = fieldAt cell field.referenceCount s at;
     }
 
 -- where the texts, the nodes and the references start among the numbers of a cell: the four lists stand one after the other
 unfoldable pub textsFrom : List ℕ → ℕ → ℕ
-textsFrom s at = uintAt 2 s (at + 48)
+textsFrom s at = fieldAt cell field.geometryCount s at
 
 unfoldable pub nodesFrom : List ℕ → ℕ → ℕ
-nodesFrom s at = textsFrom s at + uintAt 2 s (at + 50)
+nodesFrom s at = textsFrom s at + fieldAt cell field.textCount s at
 
 unfoldable pub referencesFrom : List ℕ → ℕ → ℕ
-referencesFrom s at = nodesFrom s at + uintAt 2 s (at + 52)
+referencesFrom s at = nodesFrom s at + fieldAt cell field.nodeCount s at
 
--- the number at a place among the numbers of a cell
+-- the number at a place among the numbers of a cell, "4 each"
 unfoldable pub cellNumberAt : List ℕ → ℕ → ℕ → ℕ
-cellNumberAt s at place = uintAt 4 s (at + (56 + 4 * place))
+cellNumberAt s at place = uintAt 4 s (at + (endOf cell + 4 * place))
 
 -- the number at a place of the list of batches, texts, nodes or references
 unfoldable pub cellGeometryAt : List ℕ → ℕ → ℕ → ℕ

@@ -1,6 +1,5 @@
--- A reference's source by document 01's numbers: the kind and the number that each case of `PreparedSource` stands for, and that the reader
--- gives the case of the kind and the number that it read.
--- Definitions only.
+-- A reference's source by document 01's numbers: the kind and the number that each case of `PreparedSource` stands for, and the label that it gives.
+-- Definitions only. Assumes nothing.
 use Prim.Native.Nat.{ℕ}
 use Rattle.records.specs.declared.PreparedSource.{PreparedSource}
 use Rattle.records.specs.declared.PreparedSource.the-variants.{Geometry, Text, Node, Reference, Cell}
@@ -19,3 +18,15 @@ sourceNumber (Text n) = n
 sourceNumber (Node n) = n
 sourceNumber (Reference n) = n
 sourceNumber (Cell n) = n
+
+-- "or FFFFFFFF (hexadecimal) for none"
+abbrev pub noLabel : ℕ
+noLabel = 0xffff_ffff
+
+-- `reference.label`: "cell number as label, or FFFFFFFF (hexadecimal) for none"
+unfoldable pub label : PreparedSource → ℕ
+label (Geometry n) = noLabel
+label (Text n) = noLabel
+label (Node n) = noLabel
+label (Reference n) = noLabel
+label (Cell n) = n

@@ -3,6 +3,14 @@ ghost use mathlib.Core.Path.{_≡_};
 ghost use Prim.Native.Nat.{_<_};
 ghost use Rattle.records.specs.Records.{cellAt, textsFrom, nodesFrom, referencesFrom, cellNumberAt, cellGeometryAt, cellTextAt, cellNodeAt, cellReferenceAt};
 use crate::PreparedCell;
+use crate::format::CELL_BOX;
+use crate::format::CELL_END;
+use crate::format::CELL_FLAGS;
+use crate::format::DRAW_UNITS;
+use crate::format::GEOMETRY_COUNT;
+use crate::format::NODE_COUNT;
+use crate::format::REFERENCE_COUNT;
+use crate::format::TEXT_COUNT;
 use crate::parts::bit;
 use crate::parts::bounds_at;
 use crate::parts::from;
@@ -12,12 +20,12 @@ pub fn cell_at(s: &[u8], at: usize) -> PreparedCell
 {
     let body = from(s, at);
     PreparedCell {
-        direct_draw_units: fields::u64_at(body, 8),
-        bbox: bounds_at(body, 16, bit(fields::u16_at(body, 6), 0)),
-        geometries: fields::u16_at(body, 48) as u32,
-        texts: fields::u16_at(body, 50) as u32,
-        nodes: fields::u16_at(body, 52) as u32,
-        references: fields::u16_at(body, 54) as u32,
+        direct_draw_units: fields::u64_at(body, DRAW_UNITS),
+        bbox: bounds_at(body, CELL_BOX, bit(fields::u16_at(body, CELL_FLAGS), 0)),
+        geometries: fields::u16_at(body, GEOMETRY_COUNT) as u32,
+        texts: fields::u16_at(body, TEXT_COUNT) as u32,
+        nodes: fields::u16_at(body, NODE_COUNT) as u32,
+        references: fields::u16_at(body, REFERENCE_COUNT) as u32,
     }
 }
 
@@ -27,19 +35,19 @@ pub fn cell_at(s: &[u8], at: usize) -> PreparedCell
 fn texts_from(s: &[u8], at: usize) -> usize
     ensures { λ r. ⌜ (r ≡ textsFrom (now (s .entry)) at) × (r < 65536) ⌝ }
 {
-    fields::u16_at(from(s, at), 48) as usize
+    fields::u16_at(from(s, at), GEOMETRY_COUNT) as usize
 }
 
 fn nodes_from(s: &[u8], at: usize) -> usize
     ensures { λ r. ⌜ (r ≡ nodesFrom (now (s .entry)) at) × (r < 131072) ⌝ }
 {
-    texts_from(s, at) + fields::u16_at(from(s, at), 50) as usize
+    texts_from(s, at) + fields::u16_at(from(s, at), TEXT_COUNT) as usize
 }
 
 fn references_from(s: &[u8], at: usize) -> usize
     ensures { λ r. ⌜ (r ≡ referencesFrom (now (s .entry)) at) × (r < 196608) ⌝ }
 {
-    nodes_from(s, at) + fields::u16_at(from(s, at), 52) as usize
+    nodes_from(s, at) + fields::u16_at(from(s, at), NODE_COUNT) as usize
 }
 
 // The number at a place of a cell's four lists, which stand one after the other.
@@ -47,7 +55,7 @@ fn cell_number_at(s: &[u8], at: usize, place: usize) -> u32
     requires { ⌜ place < 8589934592 ⌝ }
     ensures { λ r. ⌜ r ≡ cellNumberAt (now (s .entry)) at place ⌝ }
 {
-    fields::u32_at(from(s, at), 56 + 4 * place)
+    fields::u32_at(from(s, at), CELL_END + 4 * place)
 }
 
 pub fn cell_geometry_at(s: &[u8], at: usize, i: u32) -> u32

@@ -1,11 +1,33 @@
 // Batches, texts, nodes and references, at a record's offset.
 ghost use mathlib.Core.Path.{_≡_};
-ghost use Prim.Native.Nat.{_-_, _/_};
-ghost use Rattle.records.specs.Records.{geometryAt, textAt, nodeAt, nodePointAt, gridAt, referenceAt};
+ghost use Rattle.records.specs.Records.{geometryAt, textAt, pointsOf, nodeAt, nodePointAt, gridAt, referenceAt};
 use crate::PreparedGeometry;
 use crate::PreparedNode;
 use crate::PreparedReference;
 use crate::PreparedText;
+use crate::format::COLUMNS;
+use crate::format::COS;
+use crate::format::ELEMENT_COUNT;
+use crate::format::GEOMETRY_BOX;
+use crate::format::GEOMETRY_DATA_TYPE;
+use crate::format::GEOMETRY_LAYER;
+use crate::format::MAGNIFICATION;
+use crate::format::NODE_END;
+use crate::format::NODE_LAYER;
+use crate::format::NODE_TYPE;
+use crate::format::POINT;
+use crate::format::REFERENCE_FLAGS;
+use crate::format::REFERENCE_ORIGIN;
+use crate::format::ROWS;
+use crate::format::SIN;
+use crate::format::SOURCE_BOX;
+use crate::format::SOURCE_KIND;
+use crate::format::SOURCE_NUMBER;
+use crate::format::SPACING_X;
+use crate::format::SPACING_Y;
+use crate::format::TEXT_DATA_TYPE;
+use crate::format::TEXT_LAYER;
+use crate::format::TEXT_ORIGIN;
 use crate::parts::bit;
 use crate::parts::bounds_at;
 use crate::parts::dvec2_at;
@@ -20,10 +42,10 @@ pub fn geometry_at(s: &[u8], at: usize) -> PreparedGeometry
 {
     let body = from(s, at);
     PreparedGeometry {
-        layer: fields::u16_at(body, 6) as u32,
-        data_type: fields::u16_at(body, 8) as u32,
-        element_count: fields::u32_at(body, 10),
-        bbox: world_bbox_at(body, 14),
+        layer: fields::u16_at(body, GEOMETRY_LAYER) as u32,
+        data_type: fields::u16_at(body, GEOMETRY_DATA_TYPE) as u32,
+        element_count: fields::u32_at(body, ELEMENT_COUNT),
+        bbox: world_bbox_at(body, GEOMETRY_BOX),
     }
 }
 
@@ -32,20 +54,20 @@ pub fn text_at(s: &[u8], at: usize) -> PreparedText
 {
     let body = from(s, at);
     PreparedText {
-        layer: fields::u16_at(body, 6) as u32,
-        data_type: fields::u16_at(body, 8) as u32,
-        origin: dvec2_at(body, 10),
+        layer: fields::u16_at(body, TEXT_LAYER) as u32,
+        data_type: fields::u16_at(body, TEXT_DATA_TYPE) as u32,
+        origin: dvec2_at(body, TEXT_ORIGIN),
     }
 }
 
 // How many points a node of a length has.
 fn points_of(length: u32) -> u32
-    ensures { λ r. ⌜ r ≡ (length - 10) / 16 ⌝ }
+    ensures { λ r. ⌜ r ≡ pointsOf length ⌝ }
 {
-    if length < 10 {
+    if length < NODE_END as u32 {
         return 0;
     }
-    (length - 10) / 16
+    (length - NODE_END as u32) / POINT as u32
 }
 
 pub fn node_at(s: &[u8], at: usize) -> PreparedNode
@@ -53,8 +75,8 @@ pub fn node_at(s: &[u8], at: usize) -> PreparedNode
 {
     let body = from(s, at);
     PreparedNode {
-        layer: fields::u16_at(body, 6) as u32,
-        node_type: fields::u16_at(body, 8) as u32,
+        layer: fields::u16_at(body, NODE_LAYER) as u32,
+        node_type: fields::u16_at(body, NODE_TYPE) as u32,
         points: points_of(fields::u32_at(s, at)),
     }
 }
@@ -64,7 +86,7 @@ pub fn node_point_at(s: &[u8], at: usize, i: u32) -> DVec2
     ensures { λ r. ⌜ r ≡ nodePointAt (now (s .entry)) at i ⌝ }
 {
     let body = from(s, at);
-    dvec2_at(body, 10 + 16 * (i as usize))
+    dvec2_at(body, NODE_END + POINT * (i as usize))
 }
 
 pub fn grid_at(s: &[u8], at: usize) -> Grid
@@ -72,15 +94,15 @@ pub fn grid_at(s: &[u8], at: usize) -> Grid
 {
     let body = from(s, at);
     Grid {
-        columns: fields::u16_at(body, 6) as u32,
-        rows: fields::u16_at(body, 8) as u32,
-        x_reflection: bit(fields::u16_at(body, 10), 0),
-        origin: dvec2_at(body, 18),
-        spacing_x: dvec2_at(body, 34),
-        spacing_y: dvec2_at(body, 50),
-        magnification: fields::f64_at(body, 66),
-        cos: fields::f64_at(body, 74),
-        sin: fields::f64_at(body, 82),
+        columns: fields::u16_at(body, COLUMNS) as u32,
+        rows: fields::u16_at(body, ROWS) as u32,
+        x_reflection: bit(fields::u16_at(body, REFERENCE_FLAGS), 0),
+        origin: dvec2_at(body, REFERENCE_ORIGIN),
+        spacing_x: dvec2_at(body, SPACING_X),
+        spacing_y: dvec2_at(body, SPACING_Y),
+        magnification: fields::f64_at(body, MAGNIFICATION),
+        cos: fields::f64_at(body, COS),
+        sin: fields::f64_at(body, SIN),
     }
 }
 
@@ -90,7 +112,14 @@ pub fn reference_at(s: &[u8], at: usize) -> PreparedReference
     let body = from(s, at);
     PreparedReference {
         grid: grid_at(s, at),
-        source: source_of(fields::u16_at(body, 12), fields::u32_at(body, 14)),
-        source_bbox: bounds_at(body, 90, bit(fields::u16_at(body, 10), 1)),
+        source: source_of(
+            fields::u16_at(body, SOURCE_KIND),
+            fields::u32_at(body, SOURCE_NUMBER),
+        ),
+        source_bbox: bounds_at(
+            body,
+            SOURCE_BOX,
+            bit(fields::u16_at(body, REFERENCE_FLAGS), 1),
+        ),
     }
 }

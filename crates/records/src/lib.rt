@@ -5,6 +5,7 @@ use geometry::bbox::WorldBBox;
 use geometry::grid::Grid;
 use geometry::placement::DVec2;
 
+pub mod format; // where each field stands
 mod parts; // what the body of a record is made of
 mod items; // batches, texts, nodes and references
 mod cells; // cells and their lists
@@ -15,15 +16,12 @@ pub use cells::cell_node_at;
 pub use cells::cell_reference_at;
 pub use cells::cell_text_at;
 pub use items::geometry_at;
-pub use items::grid_at;
 pub use items::node_at;
 pub use items::node_point_at;
 pub use items::reference_at;
 pub use items::text_at;
-pub use parts::bounds_at;
-pub use parts::dvec2_at;
-pub use parts::source_of;
-pub use parts::world_bbox_at;
+pub use parts::NO_LABEL;
+pub use parts::label;
 
 // A batch.
 pub struct PreparedGeometry {

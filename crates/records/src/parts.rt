@@ -3,6 +3,7 @@ ghost use mathlib.Core.Path.{_≡_};
 ghost use Prim.Native.Nat.{_<_};
 ghost use lib.ListN.{drop};
 ghost use Rattle.records.specs.Records.{dvec2At, worldBBoxAt, boundsAt, bit, sourceOf};
+ghost use Rattle.records.specs.Sources.{label};
 use crate::PreparedSource;
 use geometry::bbox::Bounds;
 use geometry::bbox::WorldBBox;
@@ -68,5 +69,21 @@ pub fn source_of(kind: u16, number: u32) -> PreparedSource
         3 => PreparedSource::Node(number),
         4 => PreparedSource::Reference(number),
         _ => PreparedSource::Cell(number),
+    }
+}
+
+// "cell number as label, or FFFFFFFF (hexadecimal) for none"
+pub const NO_LABEL: u32 = 0xffff_ffff;
+
+// `reference.label`
+pub fn label(source: PreparedSource) -> u32
+    ensures { λ r. ⌜ r ≡ label source ⌝ }
+{
+    match source {
+        PreparedSource::Cell(cell) => cell,
+        PreparedSource::Reference(_) => NO_LABEL,
+        PreparedSource::Geometry(_) => NO_LABEL,
+        PreparedSource::Text(_) => NO_LABEL,
+        PreparedSource::Node(_) => NO_LABEL,
     }
 }

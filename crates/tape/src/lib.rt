@@ -1,5 +1,5 @@
-// The tape: one writer for each kind of record, which writes the whole record or nothing, and the zeroing of lent memory.
-// A record that does not fit leaves the output as it was; the tape's end, kept by the caller, grows all the same.
+// The tape: one writer for each kind of record, which writes the whole record or nothing, and answers the tape's new end.
+// A record that does not fit leaves the output as it was; the tape's end grows all the same.
 use geometry::bbox::WorldBBox;
 use geometry::placement::DVec2;
 use geometry::placement::Placement;
@@ -7,33 +7,43 @@ use plan_rules::ScenePlan;
 ghost use mathlib.Core.Path.{_≡_};
 ghost use Prim.Native.Nat.{_+_, _≤_};
 ghost use lib.Dec.{leb};
-ghost use lib.ListN.{length, replicate};
+ghost use lib.ListN.{length};
 ghost use lib.Seq.{sets};
-ghost use Rattle.fields.specs.Field.{recordBytes};
-ghost use Rattle.plan_rules.specs.Event.{batch, text, point, proxy, totals};
-ghost use Rattle.plan_rules.specs.Tape.{fieldsOf, putRecord};
+ghost use Rattle.fields.specs.Field.{widths, recordBytes};
+ghost use Rattle.plan_rules.specs.declared.Reason.{Reason};
+ghost use Rattle.plan_rules.specs.Event.{batch, text, point, proxy, totals, proxyFields, fieldsOf};
+ghost use Rattle.plan_rules.specs.Tape.{Written};
 
-// ---- records
+// How many bytes a record of each kind takes.
+const BATCH_SIZE: u32 = 58;
+
+const TEXT_SIZE: u32 = 26;
+
+const POINT_SIZE: u32 = 26;
+
+const PROXY_SIZE: u32 = 42;
+
+const TOTALS_SIZE: u32 = 54;
 
 // Whether `size` bytes from `at` on lie within `length`. No sum can wrap.
-fn has_room(length: usize, at: u64, size: u64) -> bool
+fn has_room(length: usize, at: u64, size: u32) -> bool
     ensures { λ r. ⌜ r ≡ leb (at + size) length ⌝ }
 {
     let end = length as u64;
     if end < at {
         return false;
     }
-    if end - at < size {
+    if end - at < (size as u64) {
         return false;
     }
     true
 }
 
 fn put_batch(out: &mut [u8], at: usize, number: u32, placement: Placement)
-    requires { ⌜ at + 58 ≤ length (now out) ⌝ }
+    requires { ⌜ at + widths (fieldsOf (batch number placement)) ≤ length (now out) ⌝ }
     ensures { λ _. ⌜ now (out .exit) ≡ sets (now (out .entry)) at (recordBytes (fieldsOf (batch number placement))) ⌝ }
 {
-    fields::put_u32(out, at, 58);
+    fields::put_u32(out, at, BATCH_SIZE);
     fields::put_u16(out, at + 4, 11);
     fields::put_u32(out, at + 6, number);
     fields::put_f64(out, at + 10, placement.xx);
@@ -45,19 +55,22 @@ fn put_batch(out: &mut [u8], at: usize, number: u32, placement: Placement)
 }
 
 // Kind 11: a batch's number and placement.
-pub fn write_batch(out: &mut [u8], at: u64, number: u32, placement: Placement)
-    ensures { λ _. ⌜ now (out .exit) ≡ putRecord (now (out .entry)) at (fieldsOf (batch number placement)) ⌝ }
+pub fn write_batch(out: &mut [u8], at: u64, number: u32, placement: Placement) -> u64
+    ensures { λ r. ⌜ Written (batch number placement) (now (out .entry)) at (now (out .exit)) r ⌝ }
 {
-    if has_room(out.len(), at, 58) {
-        put_batch(out, at as usize, number, placement);
+    let end = limits::saturating_add(at, BATCH_SIZE as u64);
+    if !has_room(out.len(), at, BATCH_SIZE) {
+        return end;
     }
+    put_batch(out, at as usize, number, placement);
+    end
 }
 
 fn put_text(out: &mut [u8], at: usize, number: u32, position: DVec2)
-    requires { ⌜ at + 26 ≤ length (now out) ⌝ }
+    requires { ⌜ at + widths (fieldsOf (text number position)) ≤ length (now out) ⌝ }
     ensures { λ _. ⌜ now (out .exit) ≡ sets (now (out .entry)) at (recordBytes (fieldsOf (text number position))) ⌝ }
 {
-    fields::put_u32(out, at, 26);
+    fields::put_u32(out, at, TEXT_SIZE);
     fields::put_u16(out, at + 4, 12);
     fields::put_u32(out, at + 6, number);
     fields::put_f64(out, at + 10, position.x);
@@ -65,19 +78,22 @@ fn put_text(out: &mut [u8], at: usize, number: u32, position: DVec2)
 }
 
 // Kind 12: a text's number and position.
-pub fn write_text(out: &mut [u8], at: u64, number: u32, position: DVec2)
-    ensures { λ _. ⌜ now (out .exit) ≡ putRecord (now (out .entry)) at (fieldsOf (text number position)) ⌝ }
+pub fn write_text(out: &mut [u8], at: u64, number: u32, position: DVec2) -> u64
+    ensures { λ r. ⌜ Written (text number position) (now (out .entry)) at (now (out .exit)) r ⌝ }
 {
-    if has_room(out.len(), at, 26) {
-        put_text(out, at as usize, number, position);
+    let end = limits::saturating_add(at, TEXT_SIZE as u64);
+    if !has_room(out.len(), at, TEXT_SIZE) {
+        return end;
     }
+    put_text(out, at as usize, number, position);
+    end
 }
 
 fn put_point(out: &mut [u8], at: usize, layer: u32, node_type: u32, position: DVec2)
-    requires { ⌜ at + 26 ≤ length (now out) ⌝ }
+    requires { ⌜ at + widths (fieldsOf (point layer «node_type» position)) ≤ length (now out) ⌝ }
     ensures { λ _. ⌜ now (out .exit) ≡ sets (now (out .entry)) at (recordBytes (fieldsOf (point layer «node_type» position))) ⌝ }
 {
-    fields::put_u32(out, at, 26);
+    fields::put_u32(out, at, POINT_SIZE);
     fields::put_u16(out, at + 4, 13);
     fields::put_u16(out, at + 6, (layer % 0x1_0000) as u16);
     fields::put_u16(out, at + 8, (node_type % 0x1_0000) as u16);
@@ -86,19 +102,22 @@ fn put_point(out: &mut [u8], at: usize, layer: u32, node_type: u32, position: DV
 }
 
 // Kind 13: a node point's layer and type, the lowest two bytes of each, and its position.
-pub fn write_point(out: &mut [u8], at: u64, layer: u32, node_type: u32, position: DVec2)
-    ensures { λ _. ⌜ now (out .exit) ≡ putRecord (now (out .entry)) at (fieldsOf (point layer «node_type» position)) ⌝ }
+pub fn write_point(out: &mut [u8], at: u64, layer: u32, node_type: u32, position: DVec2) -> u64
+    ensures { λ r. ⌜ Written (point layer «node_type» position) (now (out .entry)) at (now (out .exit)) r ⌝ }
 {
-    if has_room(out.len(), at, 26) {
-        put_point(out, at as usize, layer, node_type, position);
+    let end = limits::saturating_add(at, POINT_SIZE as u64);
+    if !has_room(out.len(), at, POINT_SIZE) {
+        return end;
     }
+    put_point(out, at as usize, layer, node_type, position);
+    end
 }
 
 fn put_proxy(out: &mut [u8], at: usize, label: u32, bbox: WorldBBox)
-    requires { ⌜ at + 42 ≤ length (now out) ⌝ }
-    ensures { λ _. ⌜ now (out .exit) ≡ sets (now (out .entry)) at (recordBytes (fieldsOf (proxy label bbox))) ⌝ }
+    requires { ⌜ at + widths (proxyFields label bbox) ≤ length (now out) ⌝ }
+    ensures { λ _. ⌜ now (out .exit) ≡ sets (now (out .entry)) at (recordBytes (proxyFields label bbox)) ⌝ }
 {
-    fields::put_u32(out, at, 42);
+    fields::put_u32(out, at, PROXY_SIZE);
     fields::put_u16(out, at + 4, 14);
     fields::put_u32(out, at + 6, label);
     fields::put_f64(out, at + 10, bbox.min_x);
@@ -108,19 +127,22 @@ fn put_proxy(out: &mut [u8], at: usize, label: u32, bbox: WorldBBox)
 }
 
 // Kind 14: a proxy's label and box.
-pub fn write_proxy(out: &mut [u8], at: u64, label: u32, bbox: WorldBBox)
-    ensures { λ _. ⌜ now (out .exit) ≡ putRecord (now (out .entry)) at (fieldsOf (proxy label bbox)) ⌝ }
+pub fn write_proxy(out: &mut [u8], at: u64, label: u32, bbox: WorldBBox) -> u64
+    ensures { λ r. ⌜ ((why : Reason) → Written (proxy why label bbox) (now (out .entry)) at (now (out .exit)) r) ⌝ }
 {
-    if has_room(out.len(), at, 42) {
-        put_proxy(out, at as usize, label, bbox);
+    let end = limits::saturating_add(at, PROXY_SIZE as u64);
+    if !has_room(out.len(), at, PROXY_SIZE) {
+        return end;
     }
+    put_proxy(out, at as usize, label, bbox);
+    end
 }
 
 fn put_totals(out: &mut [u8], at: usize, plan: ScenePlan)
-    requires { ⌜ at + 54 ≤ length (now out) ⌝ }
+    requires { ⌜ at + widths (fieldsOf (totals plan)) ≤ length (now out) ⌝ }
     ensures { λ _. ⌜ now (out .exit) ≡ sets (now (out .entry)) at (recordBytes (fieldsOf (totals plan))) ⌝ }
 {
-    fields::put_u32(out, at, 54);
+    fields::put_u32(out, at, TOTALS_SIZE);
     fields::put_u16(out, at + 4, 15);
     fields::put_u64(out, at + 6, plan.detail_cells);
     fields::put_u64(out, at + 14, plan.detail_objects);
@@ -131,32 +153,13 @@ fn put_totals(out: &mut [u8], at: usize, plan: ScenePlan)
 }
 
 // Kind 15: the six totals of `SceneStats` in its field order.
-pub fn write_totals(out: &mut [u8], at: u64, plan: ScenePlan)
-    ensures { λ _. ⌜ now (out .exit) ≡ putRecord (now (out .entry)) at (fieldsOf (totals plan)) ⌝ }
+pub fn write_totals(out: &mut [u8], at: u64, plan: ScenePlan) -> u64
+    ensures { λ r. ⌜ Written (totals plan) (now (out .entry)) at (now (out .exit)) r ⌝ }
 {
-    if has_room(out.len(), at, 54) {
-        put_totals(out, at as usize, plan);
+    let end = limits::saturating_add(at, TOTALS_SIZE as u64);
+    if !has_room(out.len(), at, TOTALS_SIZE) {
+        return end;
     }
-}
-
-// ---- lent memory
-
-pub fn clear_bytes(d: &mut [u8])
-    ensures { λ _. ⌜ now (d .exit) ≡ replicate (length (now (d .entry))) 0 ⌝ }
-{
-    let mut i = 0;
-    while i < d.len() {
-        d[i] = 0;
-        i += 1;
-    }
-}
-
-pub fn clear_counts(d: &mut [u64])
-    ensures { λ _. ⌜ now (d .exit) ≡ replicate (length (now (d .entry))) 0 ⌝ }
-{
-    let mut i = 0;
-    while i < d.len() {
-        d[i] = 0;
-        i += 1;
-    }
+    put_totals(out, at as usize, plan);
+    end
 }

@@ -1,20 +1,10 @@
 -- Products of 32-bit numbers fit 64 bits, and a quotient tells whether a product of 64-bit numbers does.
 -- Assumes nothing.
 use mathlib.Core.Path.{_≡_}
-use Prim.Native.Nat.{ℕ, _+_, _*_, _/_, _≤_, _<_}
-use native.Mathlib.Nat.{mul-le-mul-right, le-div-iff-mul-le, div-lt-iff-lt-mul, mul-comm, zero-mul}
+use Prim.Native.Nat.{ℕ, _*_, _/_, _≤_, _<_}
+use native.Mathlib.Nat.{le-div-iff-mul-le, div-lt-iff-lt-mul, mul-comm, zero-mul}
 use native.Mathlib.Omega.{arith}
 use Rattle.plan_rules.specs.Event.{saturate}
-
--- ---- a place in a layer
-
-module _ (layer cells : ℕ) (below : layer ≤ 4294967296) (few : cells < 4294967296) where
-  pub layer-fits : layer * cells < 18446744073709551616
-  layer-fits = let h : layer * cells ≤ 4294967296 * cells = mul-le-mul-right cells below in omega arith
-
-module _ (layer cells cell : ℕ) (below : layer ≤ 4294967296) (few : cells < 4294967296) where
-  pub place-fits : cell < 4294967296 → layer * cells + cell < 18446744073709551616
-  place-fits h = let p : layer * cells ≤ 4294967296 * cells = mul-le-mul-right cells below in omega arith
 
 -- ---- a product that stops at 2^64 - 1
 

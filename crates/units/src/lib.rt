@@ -1,45 +1,27 @@
-// Draw units over the lent counts and marks: `reference_draw_units`, `source_draw_units` and `cell_draw_units`, three functions in a cycle of calls.
+// Draw units over the lent counts and marks: `reference_draw_units`, `source_draw_units` and `cell_draw_units`, in a cycle of calls with the look-up of a reference by number.
 // Depth and call position fall: a reference asks its source one depth below, and a source asks a cell, which asks references, at its own depth.
 ghost use mathlib.Core.Path.{_≡_};
 ghost use Rattle.abstract_sheet.specs.Sheet.{sheetOf};
-ghost use Rattle.plan_rules.specs.DrawUnits.{counted, referenceDrawUnits, sourceDrawUnits, cellDrawUnits};
+ghost use Rattle.plan_rules.specs.DrawUnits.{counted, referenceDrawUnits, numberedDrawUnits, sourceDrawUnits, cellDrawUnits};
+use records::PreparedReference;
 use records::PreparedSource;
+use scratch::COMPLEXITY_STACK;
 use walk::Found;
 
-mod scratch; // the places of the lent counts and marks
-mod memory; // the sets and the map of the Rust's planner, which stand in those places
-mod totals; // sums and products that stop at 2^64 - 1
+mod totals; // products that stop at 2^64 - 1, and a member's share of one
 
-pub use memory::CELL_STACK;
-pub use memory::COMPLEXITY_STACK;
-pub use memory::stack_contains;
-pub use memory::stack_insert;
-pub use memory::stack_remove;
-pub use scratch::count_at;
-pub use scratch::count_place;
-pub use scratch::is_marked;
-pub use scratch::mark_at;
-pub use scratch::place;
-pub use scratch::remembered_place;
-pub use scratch::set_count;
-pub use scratch::set_mark;
-pub use totals::saturating_add;
-pub use totals::saturating_mul;
+pub use totals::source_units;
 
 pub fn reference_draw_units(
     sheet: &[u8],
     cells: u32,
     counts: &mut [u64],
     marks: &mut [u8],
-    number: u32,
+    reference: PreparedReference,
     depth: u32,
 ) -> u64
-    ensures { λ r. ⌜ counted r (now (counts .exit)) (now (marks .exit)) ≡ referenceDrawUnits (sheetOf (now (sheet .entry))) cells depth number (now (counts .entry)) (now (marks .entry)) ⌝ }
+    ensures { λ r. ⌜ counted r (now (counts .exit)) (now (marks .exit)) ≡ referenceDrawUnits (sheetOf (now (sheet .entry))) cells depth reference (now (counts .entry)) (now (marks .entry)) ⌝ }
 {
-    let Found::At(at) = walk::find(sheet, 4, number) else {
-        return 0; // no sheet that passes question 7 names such a reference
-    };
-    let reference = records::reference_at(sheet, at);
     let count = geometry::grid::grid_count(reference.grid);
     if count == 0 {
         return 0;
@@ -52,7 +34,25 @@ pub fn reference_draw_units(
     totals::scaled(count, source_count)
 }
 
-pub fn source_draw_units(
+// The same of the reference that a number names.
+fn numbered_draw_units(
+    sheet: &[u8],
+    cells: u32,
+    counts: &mut [u64],
+    marks: &mut [u8],
+    number: u32,
+    depth: u32,
+) -> u64
+    ensures { λ r. ⌜ counted r (now (counts .exit)) (now (marks .exit)) ≡ numberedDrawUnits (sheetOf (now (sheet .entry))) cells depth number (now (counts .entry)) (now (marks .entry)) ⌝ }
+{
+    let Found::At(at) = look_up::look_up(sheet, 4, number) else {
+        return 0; // no sheet that passes question 7 names such a reference
+    };
+    let reference = records::reference_at(sheet, at);
+    reference_draw_units(sheet, cells, counts, marks, reference, depth)
+}
+
+fn source_draw_units(
     sheet: &[u8],
     cells: u32,
     counts: &mut [u64],
@@ -64,7 +64,7 @@ pub fn source_draw_units(
 {
     match source {
         PreparedSource::Cell(cell) => cell_draw_units(sheet, cells, counts, marks, cell, depth),
-        PreparedSource::Reference(number) => reference_draw_units(
+        PreparedSource::Reference(number) => numbered_draw_units(
             sheet,
             cells,
             counts,
@@ -78,7 +78,7 @@ pub fn source_draw_units(
     }
 }
 
-pub fn cell_draw_units(
+fn cell_draw_units(
     sheet: &[u8],
     cells: u32,
     counts: &mut [u64],
@@ -88,30 +88,30 @@ pub fn cell_draw_units(
 ) -> u64
     ensures { λ r. ⌜ counted r (now (counts .exit)) (now (marks .exit)) ≡ cellDrawUnits (sheetOf (now (sheet .entry))) cells depth cell (now (counts .entry)) (now (marks .entry)) ⌝ }
 {
-    let Found::At(at) = walk::find(sheet, 5, cell) else {
+    let Found::At(at) = look_up::look_up(sheet, 5, cell) else {
         return 1; // the sheet lacks the cell
     };
     if depth == 0 {
         return 1; // asked before the cache, which has no place for it
     }
-    if memory::cache_contains(marks, cells, depth, cell) {
-        return memory::cache_get(counts, cells, depth, cell);
+    if scratch::cache_contains(marks, cells, depth, cell) {
+        return scratch::cache_get(counts, cells, depth, cell);
     }
-    if stack_contains(marks, cells, COMPLEXITY_STACK, cell) {
+    if scratch::stack_contains(marks, cells, COMPLEXITY_STACK, cell) {
         return 1; // a circle of cells
     }
-    stack_insert(marks, cells, COMPLEXITY_STACK, cell);
+    scratch::stack_insert(marks, cells, COMPLEXITY_STACK, cell);
     let record = records::cell_at(sheet, at);
     let references = record.references;
     let mut count = record.direct_draw_units;
     let mut i: u32 = 0;
     while i < references {
-        let reference = records::cell_reference_at(sheet, at, i);
-        let more = reference_draw_units(sheet, cells, counts, marks, reference, depth);
-        count = totals::saturating_add(count, more);
+        let number = records::cell_reference_at(sheet, at, i);
+        let more = numbered_draw_units(sheet, cells, counts, marks, number, depth);
+        count = limits::saturating_add(count, more);
         i += 1;
     }
-    stack_remove(marks, cells, COMPLEXITY_STACK, cell);
-    memory::cache_insert(counts, marks, cells, depth, cell, count);
+    scratch::stack_remove(marks, cells, COMPLEXITY_STACK, cell);
+    scratch::cache_insert(counts, marks, cells, depth, cell, count);
     count
 }

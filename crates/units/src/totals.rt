@@ -1,18 +1,10 @@
-// Sums and products that stop at 2^64 - 1: the Rust's `saturating_add` and `saturating_mul` of u64.
+// Products that stop at 2^64 - 1: the Rust's `saturating_mul` of u64; and a member's share of one.
 ghost use mathlib.Core.Path.{_≡_};
-ghost use Prim.Native.Nat.{_+_, _*_, max};
+ghost use Prim.Native.Nat.{_*_, max};
 ghost use Rattle.plan_rules.specs.Event.{saturate};
+ghost use Rattle.plan_rules.specs.Visit.{sourceUnits};
 
-pub fn saturating_add(a: u64, b: u64) -> u64
-    ensures { λ r. ⌜ r ≡ saturate (a + b) ⌝ }
-{
-    if a <= 18446744073709551615 - b {
-        return a + b;
-    }
-    18446744073709551615
-}
-
-pub fn saturating_mul(a: u64, b: u64) -> u64
+fn saturating_mul(a: u64, b: u64) -> u64
     ensures { λ r. ⌜ r ≡ saturate (a * b) ⌝ }
 {
     if a == 0 {
@@ -32,4 +24,17 @@ pub fn scaled(count: u64, source_count: u64) -> u64
         return saturating_mul(count, 1);
     }
     saturating_mul(count, source_count)
+}
+
+// A member's share of the units: `draw_units.checked_div(grid_count).unwrap_or(1).max(1)`.
+pub fn source_units(units: u64, count: u64) -> u64
+    ensures { λ r. ⌜ r ≡ sourceUnits units count ⌝ }
+{
+    if count == 0 {
+        return 1;
+    }
+    if units < count {
+        return 1; // the quotient is 0
+    }
+    units / count
 }

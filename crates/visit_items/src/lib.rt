@@ -4,17 +4,23 @@ use crate::lists::push_nodes;
 use crate::lists::push_texts;
 use geometry::bbox::Bounds;
 use geometry::placement::Placement;
-use plan_rules::SceneOptions;
+use plan_rules::Fixed;
 use plan_rules::ScenePlan;
-ghost use mathlib.Core.Path.{_≡_};
-ghost use mathlib.Core.List.{List};
-ghost use Prim.Native.Nat.{ℕ};
-ghost use Rattle.abstract_sheet.specs.Sheet.{sheetOf, cellRecordAt};
-ghost use Rattle.plan_rules.specs.World.{queryOf, world, each, ending};
-ghost use Rattle.plan_rules.specs.Visit.{VisitReference, referenceStep, cellBody};
-ghost use Rattle.plan_rules.specs.Tape.{noTag, onTape};
+use records::PreparedCell;
+ghost use Rattle.visit_items.specs.Lists.{LeavesReferences};
 
 mod lists; // the loop over each list
+
+pub use lists::load_cell;
+
+// A cell that is open: its number, where its record stands, the record, and where the cell is placed, with its box there.
+pub struct OpenCell {
+    pub number: u32,
+    pub at: usize,
+    pub record: PreparedCell,
+    pub transform: Placement,
+    pub bounds: Bounds,
+}
 
 // A plan, and how many references are left to visit: none after a limit.
 pub struct Listed {
@@ -24,30 +30,15 @@ pub struct Listed {
 
 pub fn push_items(
     sheet: &[u8],
-    query: SceneOptions,
+    fixed: Fixed,
     hidden: &[u32],
-    object_limit: u64,
     out: &mut [u8],
     plan: ScenePlan,
-    cell: u32,
-    at: usize,
-    transform: Placement,
-    bounds: Bounds,
+    cell: OpenCell,
 ) -> Listed
-    ensures { λ r. ⌜ ((cells : ℕ) (visit : VisitReference noTag onTape (sheetOf (now (sheet .entry))) cells (queryOf query (now (hidden .entry)) «object_limit»)) (k m : List ℕ) → ending (each (referenceStep noTag onTape (sheetOf (now (sheet .entry))) cells (queryOf query (now (hidden .entry)) «object_limit») tt cell (cellRecordAt (now (sheet .entry)) at) transform bounds visit) (r .references) 0 (world (r .plan) (now (out .exit)) k m)) ≡ ending (cellBody noTag onTape (sheetOf (now (sheet .entry))) cells (queryOf query (now (hidden .entry)) «object_limit») tt cell (cellRecordAt (now (sheet .entry)) at) transform bounds visit (world plan (now (out .entry)) k m))) ⌝ }
+    ensures { λ r. ⌜ LeavesReferences (now (sheet .entry)) fixed (now (hidden .entry)) cell r (out .exit) plan (out .entry) ⌝ }
 {
-    let geometries = push_geometries(
-        sheet,
-        query,
-        hidden,
-        object_limit,
-        out,
-        plan,
-        cell,
-        at,
-        transform,
-        bounds,
-    );
+    let geometries = push_geometries(sheet, fixed, hidden, out, plan, cell);
     let after_geometries = geometries.plan;
     if !geometries.whole {
         return Listed {
@@ -55,18 +46,7 @@ pub fn push_items(
             references: 0,
         };
     }
-    let texts = push_texts(
-        sheet,
-        query,
-        hidden,
-        object_limit,
-        out,
-        after_geometries,
-        cell,
-        at,
-        transform,
-        bounds,
-    );
+    let texts = push_texts(sheet, fixed, hidden, out, after_geometries, cell);
     let after_texts = texts.plan;
     if !texts.whole {
         return Listed {
@@ -74,18 +54,7 @@ pub fn push_items(
             references: 0,
         };
     }
-    let nodes = push_nodes(
-        sheet,
-        query,
-        hidden,
-        object_limit,
-        out,
-        after_texts,
-        cell,
-        at,
-        transform,
-        bounds,
-    );
+    let nodes = push_nodes(sheet, fixed, hidden, out, after_texts, cell);
     let after_nodes = nodes.plan;
     if !nodes.whole {
         return Listed {
@@ -95,6 +64,6 @@ pub fn push_items(
     }
     Listed {
         plan: after_nodes,
-        references: records::cell_at(sheet, at).references,
+        references: cell.record.references,
     }
 }

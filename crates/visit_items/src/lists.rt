@@ -1,58 +1,49 @@
-// The loops of `visit_cell` over the batches, texts and nodes of the cell at an offset.
+// The loops of `visit_cell` over the batches, texts and nodes of an open cell.
 // At an exhausted budget the cell's box is added, if it has one, and the visit is over.
-use geometry::bbox::Bounds;
-use geometry::placement::Placement;
-use plan_rules::SceneOptions;
+use crate::OpenCell;
+use limits::detail_budget_exhausted;
+use plan_rules::Fixed;
+use plan_rules::Reason;
 use plan_rules::ScenePlan;
 use pushes::Visited;
 use pushes::add_load_if_boxed;
-use pushes::detail_budget_exhausted;
 use pushes::push_geometry;
 use pushes::push_node;
 use pushes::push_text;
-ghost use mathlib.Core.Path.{_≡_};
-ghost use mathlib.Core.List.{List};
-ghost use Prim.Native.Nat.{ℕ};
-ghost use Rattle.abstract_sheet.specs.Sheet.{sheetOf, cellRecordAt};
-ghost use Rattle.plan_rules.specs.World.{queryOf, world, flow, each};
-ghost use Rattle.plan_rules.specs.Visit.{geometryStep, textStep, nodeStep};
-ghost use Rattle.plan_rules.specs.Tape.{noTag, onTape};
+ghost use Rattle.plan_rules.specs.declared.Reason.the-variants.{OtherLimit};
+ghost use Rattle.plan_rules.specs.OnTape.{Leaves, LeavesFlow, addLoadIfBoxed};
+ghost use Rattle.visit_items.specs.Lists.{pushGeometries, pushTexts, pushNodes};
+
+// A limit is met in the visit of a cell.
+pub fn load_cell(out: &mut [u8], plan: ScenePlan, cell: OpenCell) -> ScenePlan
+    ensures { λ r. ⌜ Leaves r (out .exit) (addLoadIfBoxed OtherLimit (cell .number) (cell .bounds)) plan (out .entry) ⌝ }
+{
+    let bounds = cell.bounds;
+    add_load_if_boxed(out, plan, Reason::OtherLimit, cell.number, bounds)
+}
 
 pub fn push_geometries(
     sheet: &[u8],
-    query: SceneOptions,
+    fixed: Fixed,
     hidden: &[u32],
-    object_limit: u64,
     out: &mut [u8],
     plan: ScenePlan,
-    cell: u32,
-    at: usize,
-    transform: Placement,
-    bounds: Bounds,
+    cell: OpenCell,
 ) -> Visited
-    ensures { λ r. ⌜ ((cells : ℕ) (k m : List ℕ) → flow (r .whole) (world (r .plan) (now (out .exit)) k m) ≡ each (geometryStep noTag onTape (sheetOf (now (sheet .entry))) cells (queryOf query (now (hidden .entry)) «object_limit») tt cell (cellRecordAt (now (sheet .entry)) at) transform bounds) (cellRecordAt (now (sheet .entry)) at .geometries .count) 0 (world plan (now (out .entry)) k m)) ⌝ }
+    ensures { λ r. ⌜ LeavesFlow (r .whole) (r .plan) (out .exit) (pushGeometries (now (sheet .entry)) fixed (now (hidden .entry)) cell) plan (out .entry) ⌝ }
 {
-    let count = records::cell_at(sheet, at).geometries;
+    let count = cell.record.geometries;
     let mut next = plan;
     let mut i: u32 = 0;
     while i < count {
-        if detail_budget_exhausted(next, object_limit) {
+        if detail_budget_exhausted(fixed, next) {
             return Visited {
-                plan: add_load_if_boxed(out, next, cell, bounds),
+                plan: load_cell(out, next, cell),
                 whole: false,
             };
         }
-        let number = records::cell_geometry_at(sheet, at, i);
-        next = push_geometry(
-            sheet,
-            query,
-            hidden,
-            object_limit,
-            out,
-            next,
-            number,
-            transform,
-        );
+        let number = records::cell_geometry_at(sheet, cell.at, i);
+        next = push_geometry(sheet, fixed, hidden, out, next, number, cell.transform);
         i += 1;
     }
     Visited {
@@ -63,30 +54,26 @@ pub fn push_geometries(
 
 pub fn push_texts(
     sheet: &[u8],
-    query: SceneOptions,
+    fixed: Fixed,
     hidden: &[u32],
-    object_limit: u64,
     out: &mut [u8],
     plan: ScenePlan,
-    cell: u32,
-    at: usize,
-    transform: Placement,
-    bounds: Bounds,
+    cell: OpenCell,
 ) -> Visited
-    ensures { λ r. ⌜ ((cells : ℕ) (k m : List ℕ) → flow (r .whole) (world (r .plan) (now (out .exit)) k m) ≡ each (textStep noTag onTape (sheetOf (now (sheet .entry))) cells (queryOf query (now (hidden .entry)) «object_limit») tt cell (cellRecordAt (now (sheet .entry)) at) transform bounds) (cellRecordAt (now (sheet .entry)) at .texts .count) 0 (world plan (now (out .entry)) k m)) ⌝ }
+    ensures { λ r. ⌜ LeavesFlow (r .whole) (r .plan) (out .exit) (pushTexts (now (sheet .entry)) fixed (now (hidden .entry)) cell) plan (out .entry) ⌝ }
 {
-    let count = records::cell_at(sheet, at).texts;
+    let count = cell.record.texts;
     let mut next = plan;
     let mut i: u32 = 0;
     while i < count {
-        if detail_budget_exhausted(next, object_limit) {
+        if detail_budget_exhausted(fixed, next) {
             return Visited {
-                plan: add_load_if_boxed(out, next, cell, bounds),
+                plan: load_cell(out, next, cell),
                 whole: false,
             };
         }
-        let number = records::cell_text_at(sheet, at, i);
-        next = push_text(sheet, query, hidden, out, next, number, transform);
+        let number = records::cell_text_at(sheet, cell.at, i);
+        next = push_text(sheet, fixed, hidden, out, next, number, cell.transform);
         i += 1;
     }
     Visited {
@@ -97,43 +84,30 @@ pub fn push_texts(
 
 pub fn push_nodes(
     sheet: &[u8],
-    query: SceneOptions,
+    fixed: Fixed,
     hidden: &[u32],
-    object_limit: u64,
     out: &mut [u8],
     plan: ScenePlan,
-    cell: u32,
-    at: usize,
-    transform: Placement,
-    bounds: Bounds,
+    cell: OpenCell,
 ) -> Visited
-    ensures { λ r. ⌜ ((cells : ℕ) (k m : List ℕ) → flow (r .whole) (world (r .plan) (now (out .exit)) k m) ≡ each (nodeStep noTag onTape (sheetOf (now (sheet .entry))) cells (queryOf query (now (hidden .entry)) «object_limit») tt cell (cellRecordAt (now (sheet .entry)) at) transform bounds) (cellRecordAt (now (sheet .entry)) at .nodes .count) 0 (world plan (now (out .entry)) k m)) ⌝ }
+    ensures { λ r. ⌜ LeavesFlow (r .whole) (r .plan) (out .exit) (pushNodes (now (sheet .entry)) fixed (now (hidden .entry)) cell) plan (out .entry) ⌝ }
 {
-    let count = records::cell_at(sheet, at).nodes;
+    let count = cell.record.nodes;
     let mut next = plan;
     let mut i: u32 = 0;
     while i < count {
-        if detail_budget_exhausted(next, object_limit) {
+        if detail_budget_exhausted(fixed, next) {
             return Visited {
-                plan: add_load_if_boxed(out, next, cell, bounds),
+                plan: load_cell(out, next, cell),
                 whole: false,
             };
         }
-        let number = records::cell_node_at(sheet, at, i);
-        let visited = push_node(
-            sheet,
-            query,
-            hidden,
-            object_limit,
-            out,
-            next,
-            number,
-            transform,
-        );
+        let number = records::cell_node_at(sheet, cell.at, i);
+        let visited = push_node(sheet, fixed, hidden, out, next, number, cell.transform);
         next = visited.plan;
         if !visited.whole {
             return Visited {
-                plan: add_load_if_boxed(out, next, cell, bounds),
+                plan: load_cell(out, next, cell),
                 whole: false,
             };
         }

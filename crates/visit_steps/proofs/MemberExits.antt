@@ -10,16 +10,20 @@ use borrow.Author.Tests.{not-true, not-false}
 use Rattle.geometry.specs.declared.bbox.WorldBBox.{WorldBBox}
 use Rattle.geometry.specs.declared.placement.Placement.{Placement}
 use Rattle.geometry.specs.declared.screen.ScreenSize.{ScreenSize}
+use Rattle.geometry.specs.declared.screen.CollapseTest.{CollapseTest}
 use Rattle.geometry.specs.Placement.{_·_}
 use Rattle.geometry.specs.Bbox.{transformBbox, overlaps, sourceIsDegenerate}
 use Rattle.geometry.specs.Grid.{gridMemberTransform}
-use Rattle.geometry.specs.Screen.{referenceScreenSize, isSubpixel, shouldCollapseReference}
+use Rattle.geometry.specs.Screen.{referenceScreenSize, isSubpixel, collapseTest, collapses}
 use Rattle.records.specs.declared.PreparedReference.{PreparedReference}
+use Rattle.records.specs.Sources.{label}
 use Rattle.abstract_sheet.specs.Sheet.{Sheet}
+use Rattle.plan_rules.specs.declared.Reason.{Reason}
+use Rattle.plan_rules.specs.declared.Reason.the-variants as reason
 use Rattle.plan_rules.specs.Event.{skippedMember, culledReference}
 use Rattle.plan_rules.specs.World.{Query, detailBudgetExhausted, World, Flow, go, halt}
 use Rattle.plan_rules.specs.Push.{say, addLoad}
-use Rattle.plan_rules.specs.Visit.{VisitSource, label, haltWithMember, memberStep}
+use Rattle.plan_rules.specs.Visit.{VisitSource, collapseReason, haltWithMember, memberStep}
 use Rattle.plan_rules.specs.Tape.{noTag, onTape}
 use Rattle.plan_rules.proofs.Paths.References.{member-exhausted, member-culled, member-skipped, member-collapsed}
 
@@ -52,9 +56,9 @@ module _ (S : Sheet) (cells : ℕ) (q : Query) (visit : VisitSource noTag onTape
 
   -- the label, and whether the budget is exhausted
   module _ (l : ℕ) (label-is : l ≡ label (r .source)) (x : Bool) (exhausted-is : x ≡ detailBudgetExhausted q (w .state)) where
-    pub try-exhausted : x ≡ true → (v : World (List ℕ)) → v ≡ addLoad noTag onTape tt l worldBox w → halt v ≡ step
+    pub try-exhausted : x ≡ true → (v : World (List ℕ)) → v ≡ addLoad noTag onTape tt reason.OtherLimit l worldBox w → halt v ≡ step
     try-exhausted e v loaded =
-        ap halt (loaded ∙ ap (λ (n : ℕ). addLoad noTag onTape tt n worldBox w) label-is)
+        ap halt (loaded ∙ ap (λ (n : ℕ). addLoad noTag onTape tt reason.OtherLimit n worldBox w) label-is)
         ∙ sym (member-exhausted noTag onTape S cells q visit d tt r p sourceBox worldBox units column row w (sym exhausted-is ∙ e))
 
     -- with room left, the member's placement and box, and whether it is in view
@@ -103,14 +107,20 @@ module _ (S : Sheet) (cells : ℕ) (q : Query) (visit : VisitSource noTag onTape
             ap go (said (sourceIsDegenerate sourceBox) memberBox)
             ∙ sym (member-skipped noTag onTape S cells q visit d tt r p sourceBox worldBox units column row w room-left member-seen (member-subpixel ∙ e))
 
-        -- large enough, whether the member collapses
-        module _ (large : s ≡ false) (z : Bool) (collapse-is : z ≡ shouldCollapseReference (size .width) (size .height) 1 units d false) where
-          member-collapses : shouldCollapseReference (memberSize .width) (memberSize .height) 1 units d false ≡ z
-          member-collapses = sym (collapse-is ∙ ap (λ (k : ScreenSize). shouldCollapseReference (k .width) (k .height) 1 units d false) member-size)
+        -- large enough, the first test met, and whether it collapses the member
+        module _ (large : s ≡ false) (test : CollapseTest) (test-is : test ≡ collapseTest (size .width) (size .height) 1 units d false) (z : Bool) (collapses-is : z ≡ collapses test) where
+          member-test : collapseTest (memberSize .width) (memberSize .height) 1 units d false ≡ test
+          member-test = sym (test-is ∙ ap (λ (k : ScreenSize). collapseTest (k .width) (k .height) 1 units d false) member-size)
 
-          pub try-collapsed : z ≡ true → (v : World (List ℕ)) → v ≡ addLoad noTag onTape tt l box w → go v ≡ step
-          try-collapsed e v loaded =
-              ap go (loaded ∙ ap (λ (n : ℕ). addLoad noTag onTape tt n box w) label-is ∙ ap (λ (b : WorldBBox). addLoad noTag onTape tt (label (r .source)) b w) member-box)
+          member-collapses : collapses (collapseTest (memberSize .width) (memberSize .height) 1 units d false) ≡ z
+          member-collapses = ap collapses member-test ∙ sym collapses-is
+
+          pub try-collapsed : z ≡ true → (why : Reason) → why ≡ collapseReason test → (v : World (List ℕ)) → v ≡ addLoad noTag onTape tt why l box w → go v ≡ step
+          try-collapsed e why why-is v loaded =
+              ap go (loaded
+              ∙ ap (λ (y : Reason). addLoad noTag onTape tt y l box w) (why-is ∙ ap collapseReason (sym member-test))
+              ∙ ap (λ (n : ℕ). addLoad noTag onTape tt (collapseReason (collapseTest (memberSize .width) (memberSize .height) 1 units d false)) n box w) label-is
+              ∙ ap (λ (b : WorldBBox). addLoad noTag onTape tt (collapseReason (collapseTest (memberSize .width) (memberSize .height) 1 units d false)) (label (r .source)) b w) member-box)
               ∙ sym (member-collapsed noTag onTape S cells q visit d tt r p sourceBox worldBox units column row w room-left member-seen (member-subpixel ∙ large) (member-collapses ∙ e))
 
           -- the source is left to be visited

@@ -2,20 +2,15 @@
 use geometry::bbox::Bounds;
 use geometry::bbox::WorldBBox;
 use geometry::placement::Placement;
-use plan_rules::SceneOptions;
+use geometry::screen::CollapseTest;
+use plan_rules::Fixed;
+use plan_rules::Reason;
 use plan_rules::ScenePlan;
 use records::PreparedReference;
 ghost use mathlib.Core.Path.{_≡_};
-ghost use mathlib.Core.Bool.{cond, false};
-ghost use mathlib.Core.List.{List};
-ghost use Prim.Native.Nat.{ℕ};
-ghost use Rattle.geometry.specs.Bbox.{sourceIsDegenerate};
-ghost use Rattle.geometry.specs.Screen.{referenceScreenSize, shouldCollapseReference};
-ghost use Rattle.abstract_sheet.specs.Sheet.{Sheet};
-ghost use Rattle.plan_rules.specs.World.{queryOf, world};
-ghost use Rattle.plan_rules.specs.DrawUnits.{referenceDrawUnits};
-ghost use Rattle.plan_rules.specs.Visit.{VisitSource, visitCountedReference, visitSourcedReference};
-ghost use Rattle.plan_rules.specs.Tape.{noTag, onTape};
+ghost use mathlib.Core.Bool.{false};
+ghost use Rattle.plan_rules.specs.Visit.{collapseReason};
+ghost use Rattle.visit_steps.specs.Left.{OpensReference, referenceTest};
 
 // The plan so far, whether the reference's draw units are to be counted, and, if so, its source's box and its own placed box.
 pub struct Opened {
@@ -27,14 +22,13 @@ pub struct Opened {
 
 // What is left to do of a reference that is there.
 pub fn open_reference(
-    query: SceneOptions,
-    object_limit: u64,
+    fixed: Fixed,
     out: &mut [u8],
     plan: ScenePlan,
     reference: PreparedReference,
     transform: Placement,
 ) -> Opened
-    ensures { λ r. ⌜ ((S : Sheet) (cells : ℕ) (hidden : List ℕ) (visit : VisitSource noTag onTape S cells (queryOf query hidden «object_limit»)) (depth number : ℕ) (k m : List ℕ) → cond (r .goes) (visitCountedReference noTag onTape S cells (queryOf query hidden «object_limit») visit depth tt reference transform (r .«source_bbox») (r .«world_bbox») (referenceDrawUnits S cells depth number k m) (world (r .plan) (now (out .exit)) k m)) (world (r .plan) (now (out .exit)) k m) ≡ visitSourcedReference noTag onTape S cells (queryOf query hidden «object_limit») visit depth tt number reference transform (reference .«source_bbox») (world plan (now (out .entry)) k m)) ⌝ }
+    ensures { λ r. ⌜ OpensReference fixed reference transform r (out .exit) plan (out .entry) ⌝ }
 {
     let bounds = reference.source_bbox;
     let Bounds::Box(min_x, min_y, max_x, max_y) = bounds else {
@@ -49,15 +43,18 @@ pub fn open_reference(
         transform,
         WorldBBox::new(left, bottom, right, top),
     );
-    if !world_bbox.overlaps(query.view) {
+    if !world_bbox.overlaps(fixed.options.view) {
         let culled = pushes::count_culled_reference(plan);
         return over(culled);
     }
-    if visit_values::detail_cells_full(plan)
-        || pushes::detail_budget_exhausted(plan, object_limit)
-    {
-        let source = reference.source;
-        let boxed = pushes::add_load(out, plan, visit_values::label(source), world_bbox);
+    let source = reference.source;
+    let label = records::label(source);
+    if limits::detail_cells_full(plan) {
+        let boxed = pushes::add_load(out, plan, Reason::CellLimit, label, world_bbox);
+        return over(boxed);
+    }
+    if limits::detail_budget_exhausted(fixed, plan) {
+        let boxed = pushes::add_load(out, plan, Reason::OtherLimit, label, world_bbox);
         return over(boxed);
     }
     Opened {
@@ -81,28 +78,34 @@ fn over(plan: ScenePlan) -> Opened
     }
 }
 
-// `should_collapse_reference` for a reference of so many members, by the size of its box on the screen.
-pub fn collapses(
-    query: SceneOptions,
+// `should_collapse_reference` for a reference of so many members, by the size of its box on the screen: the first test met.
+pub fn reference_test(
+    fixed: Fixed,
     source_bbox: WorldBBox,
     bbox: WorldBBox,
     members: u64,
     units: u64,
     depth: u32,
-) -> bool
-    ensures { λ r. ⌜ r ≡ shouldCollapseReference (referenceScreenSize bbox (query .zoom) (sourceIsDegenerate «source_bbox») .width) (referenceScreenSize bbox (query .zoom) (sourceIsDegenerate «source_bbox») .height) members units depth false ⌝ }
+) -> CollapseTest
+    ensures { λ r. ⌜ r ≡ referenceTest fixed «source_bbox» bbox members units depth ⌝ }
 {
     let size = geometry::screen::reference_screen_size(
         bbox,
-        query.zoom,
+        fixed.options.zoom,
         geometry::bbox::source_is_degenerate(source_bbox),
     );
-    geometry::screen::should_collapse_reference(
-        size.width,
-        size.height,
-        members,
-        units,
-        depth,
-        false,
-    )
+    geometry::screen::collapse_test(size.width, size.height, members, units, depth, false)
+}
+
+// The reason that a test gives.
+pub fn collapse_reason(test: CollapseTest) -> Reason
+    ensures { λ r. ⌜ r ≡ collapseReason test ⌝ }
+{
+    match test {
+        CollapseTest::Passed => Reason::DenseReference,
+        CollapseTest::Depth => Reason::DepthAtMostOne,
+        CollapseTest::Side => Reason::SmallSide,
+        CollapseTest::Grid => Reason::LargeGrid,
+        CollapseTest::Density => Reason::DenseReference,
+    }
 }

@@ -5,30 +5,35 @@ use mathlib.Core.Path.{_≡_, refl, sym, ap, _∙_}
 use mathlib.Core.Bool.{Bool, true, false, cond}
 use mathlib.Core.List.{List}
 use mathlib.Core.Option.{Option, some}
-use Prim.Native.Nat.{ℕ, zero, suc, _-_, _<_}
+use Prim.Native.Nat.{ℕ, _-_, _<_}
 use native.Mathlib.Omega.{arith}
 use lib.Dec.{leb}
 use borrow.Author.Tests.{leb-false}
 use Rattle.geometry.specs.declared.bbox.WorldBBox.{WorldBBox}
 use Rattle.geometry.specs.declared.placement.Placement.{Placement}
+use Rattle.geometry.specs.declared.screen.CollapseTest.{CollapseTest}
 use Rattle.geometry.specs.Bbox.{sourceIsDegenerate}
 use Rattle.geometry.specs.Grid.{gridCount}
-use Rattle.geometry.specs.Screen.{referenceScreenSize, shouldCollapseReference}
+use Rattle.geometry.specs.Screen.{referenceScreenSize, collapseTest, collapses}
 use Rattle.walk.specs.declared.Found.the-variants.{At, Nothing}
 use Rattle.walk.specs.Find.{find}
 use Rattle.records.specs.declared.PreparedReference.{PreparedReference}
 use Rattle.records.specs.Records.{referenceAt}
+use Rattle.records.specs.Sources.{label}
 use Rattle.abstract_sheet.specs.Sheet.{sheetOf, references}
 use Rattle.abstract_sheet.proofs.Lookup.{item-read}
-use Rattle.plan_rules.specs.declared.SceneOptions.{SceneOptions}
+use Rattle.plan_rules.specs.declared.Fixed.{Fixed}
+use Rattle.plan_rules.specs.declared.Reason.{Reason}
+use Rattle.plan_rules.specs.declared.Reason.the-variants.{OtherLimit}
 use Rattle.plan_rules.specs.Event.{nodeGridLimit, after, _⊞_}
-use Rattle.plan_rules.specs.World.{Query, queryOf, World, world, Flow, go, halt, flow, ending, each}
+use Rattle.plan_rules.specs.World.{Query, World, world, Flow, go, halt, flow, ending, each}
 use Rattle.plan_rules.specs.DrawUnits.{Units, counted}
 use Rattle.plan_rules.specs.Push.{say, addLoad}
-use Rattle.plan_rules.specs.Visit.{VisitSource, label, sourceUnits, haltWithMember, memberStep, columnStep, visitCountedReference, visitSourcedReference, visitFoundReference, visitReference, visitSource}
+use Rattle.plan_rules.specs.Visit.{VisitSource, collapseReason, sourceUnits, haltWithMember, memberStep, columnStep, visitCountedReference, visitSourcedReference, visitFoundReference, visitReference, visitSource}
 use Rattle.plan_rules.specs.Tape.{noTag, onTape, putRecord}
+use Rattle.plan_rules.specs.OnTape.{fixedQuery}
 use Rattle.plan_rules.proofs.Paths.References as Paths
-use Rattle.visit_values.proofs.Members.{memberAt, members-in-one-loop}
+use Rattle.visits.proofs.Members.{memberAt, members-in-one-loop}
 
 -- ---- the two answers of `open_reference`: its draw units are to be counted, or nothing is left to do
 
@@ -57,14 +62,17 @@ module _ (opens whole : Bool) (l : ℕ) (box : WorldBBox) (w : World (List ℕ))
     pub source-passed : source-whole ≡ true → (v : World (List ℕ)) → v ≡ u → turn ≡ go v
     source-passed g v e = sym (rw (opened, ← done, g) at tried) ∙ ap go (sym e)
 
-    pub source-halted : source-whole ≡ false → (n : ℕ) → n ≡ l → (v : World (List ℕ)) → v ≡ addLoad noTag onTape tt n box u → turn ≡ halt v
+    pub source-halted : source-whole ≡ false → (n : ℕ) → n ≡ l → (v : World (List ℕ)) → v ≡ addLoad noTag onTape tt OtherLimit n box u → turn ≡ halt v
     source-halted g n e v boxed =
         sym (rw (opened, ← done, g) at tried)
-        ∙ ap halt (node-grid-limit-silent (addLoad noTag onTape tt l box u) ∙ ap (λ (n : ℕ). addLoad noTag onTape tt n box u) (sym e) ∙ sym boxed)
+        ∙ ap halt (node-grid-limit-silent (addLoad noTag onTape tt OtherLimit l box u) ∙ ap (λ (n : ℕ). addLoad noTag onTape tt OtherLimit n box u) (sym e) ∙ sym boxed)
 
-module _ (s : List ℕ) (cells : ℕ) (query : SceneOptions) (hidden : List ℕ) (limit depth : ℕ) where
+module _ (s : List ℕ) (f : Fixed) (hidden : List ℕ) (depth : ℕ) where
   abbrev q : Query
-  q = queryOf query hidden limit
+  q = fixedQuery f hidden
+
+  abbrev cells : ℕ
+  cells = f .counts .cells
 
   -- ---- the look-up
 
@@ -73,33 +81,28 @@ module _ (s : List ℕ) (cells : ℕ) (query : SceneOptions) (hidden : List ℕ)
   deeper = Paths.deeper noTag onTape (sheetOf s) cells q depth
 
   module _ (number : ℕ) (transform : Placement) (w : World (List ℕ)) where
-    by-depth : (d : ℕ) → visitReference noTag onTape (sheetOf s) cells q d tt number transform w
-        ≡ visitFoundReference noTag onTape (sheetOf s) cells q (Paths.deeper noTag onTape (sheetOf s) cells q d) d tt number transform (sheetOf s .reference number) w
-    by-depth zero = unfold visitReference in refl
-    by-depth (suc d) = unfold visitReference visitSource in refl
-
     pub missing : find s 4 number ≡ Nothing → w ≡ visitReference noTag onTape (sheetOf s) cells q depth tt number transform w
     missing e = sym (Paths.reference-missing noTag onTape (sheetOf s) cells q depth tt number transform w (item-read references s number e))
 
     pub found : (at : ℕ) → find s 4 number ≡ At at → (r : PreparedReference) → r ≡ referenceAt s at
-        → visitSourcedReference noTag onTape (sheetOf s) cells q deeper depth tt number r transform (r .«source_bbox») w ≡ visitReference noTag onTape (sheetOf s) cells q depth tt number transform w
+        → visitSourcedReference noTag onTape (sheetOf s) cells q deeper depth tt r transform (r .«source_bbox») w ≡ visitReference noTag onTape (sheetOf s) cells q depth tt number transform w
     unfolding visitFoundReference
     found at e r read =
-        sym (by-depth depth ∙ ap (λ (o : Option PreparedReference). visitFoundReference noTag onTape (sheetOf s) cells q deeper depth tt number transform o w)
+        sym (Paths.reference-is noTag onTape (sheetOf s) cells q depth tt number transform w ∙ ap (λ (o : Option PreparedReference). visitFoundReference noTag onTape (sheetOf s) cells q deeper depth tt transform o w)
         (item-read references s number e ∙ ap some (sym read)))
 
   -- ---- the draw units counted
 
   -- a reference that does not collapse has depth for its source
   pub expands-deep : (sourceBox box : WorldBBox) (members units : ℕ)
-      → shouldCollapseReference (referenceScreenSize box (query .zoom) (sourceIsDegenerate sourceBox) .width) (referenceScreenSize box (query .zoom) (sourceIsDegenerate sourceBox) .height) members units depth false ≡ false
+      → collapses (collapseTest (referenceScreenSize box (f .options .zoom) (sourceIsDegenerate sourceBox) .width) (referenceScreenSize box (f .options .zoom) (sourceIsDegenerate sourceBox) .height) members units depth false) ≡ false
       → 1 < depth
   expands-deep sourceBox box members units e = by (leb depth 1) refl
     where
       by : (b : Bool) → leb depth 1 ≡ b → 1 < depth
       by true h =
-          let size = referenceScreenSize box (query .zoom) (sourceIsDegenerate sourceBox) in
-          let f : shouldCollapseReference (size .width) (size .height) members units depth false ≡ true = Paths.collapses-shallow noTag onTape (sheetOf s) cells q depth h (size .width) (size .height) members units in
+          let size = referenceScreenSize box (f .options .zoom) (sourceIsDegenerate sourceBox) in
+          let shallow : collapses (collapseTest (size .width) (size .height) members units depth false) ≡ true = Paths.collapses-shallow noTag onTape (sheetOf s) cells q depth h (size .width) (size .height) members units in
           let z : _≡_ {A = ℕ} 0 1 = cc in
           absurd (omega arith)
       by false h = leb-false depth 1 h
@@ -116,24 +119,28 @@ module _ (s : List ℕ) (cells : ℕ) (query : SceneOptions) (hidden : List ℕ)
         members-in-one-loop (memberStep noTag onTape (sheetOf s) cells q (visitSource noTag onTape (sheetOf s) cells q (depth - 1)) depth tt r transform sourceBox worldBox share) (r .grid .rows) (r .grid .columns) w
 
     module _ (w : World (List ℕ)) (u : Units) (units count : ℕ) (k m : List ℕ) (units-are : counted units k m ≡ u) (grid : count ≡ gridCount (r .grid))
-        (collapses : Bool)
-        (tested : collapses ≡ shouldCollapseReference (referenceScreenSize worldBox (query .zoom) (sourceIsDegenerate sourceBox) .width) (referenceScreenSize worldBox (query .zoom) (sourceIsDegenerate sourceBox) .height) count units depth false)
+        (test : CollapseTest) (tested : test ≡ collapseTest (referenceScreenSize worldBox (f .options .zoom) (sourceIsDegenerate sourceBox) .width) (referenceScreenSize worldBox (f .options .zoom) (sourceIsDegenerate sourceBox) .height) count units depth false)
+        (boxes : Bool) (asked : boxes ≡ collapses test)
       where
         counted-is : visitCountedReference noTag onTape (sheetOf s) cells q deeper depth tt r transform sourceBox worldBox (counted units k m) w ≡ visitCountedReference noTag onTape (sheetOf s) cells q deeper depth tt r transform sourceBox worldBox u w
         counted-is = ap (λ (u : Units). visitCountedReference noTag onTape (sheetOf s) cells q deeper depth tt r transform sourceBox worldBox u w) units-are
 
-        pub collapsed : collapses ≡ true → (l : ℕ) → l ≡ label (r .source) → (v : World (List ℕ)) → v ≡ addLoad noTag onTape tt l worldBox (world (w .state) (w .out) k m)
+        pub collapsed : boxes ≡ true → (y : Reason) → y ≡ collapseReason test → (l : ℕ) → l ≡ label (r .source)
+            → (v : World (List ℕ)) → v ≡ addLoad noTag onTape tt y l worldBox (world (w .state) (w .out) k m)
             → v ≡ visitCountedReference noTag onTape (sheetOf s) cells q deeper depth tt r transform sourceBox worldBox u w
         unfolding visitCountedReference
-        collapsed h l e v boxed =
-            let rules : visitCountedReference noTag onTape (sheetOf s) cells q deeper depth tt r transform sourceBox worldBox (counted units k m) w ≡ addLoad noTag onTape tt (label (r .source)) worldBox (world (w .state) (w .out) k m) = rw (← grid, ← tested, h) in
-            boxed ∙ ap (λ (l : ℕ). addLoad noTag onTape tt l worldBox (world (w .state) (w .out) k m)) e ∙ sym rules ∙ counted-is
+        collapsed h y why l e v boxed =
+            let rules : visitCountedReference noTag onTape (sheetOf s) cells q deeper depth tt r transform sourceBox worldBox (counted units k m) w ≡ addLoad noTag onTape tt (collapseReason test) (label (r .source)) worldBox (world (w .state) (w .out) k m) = rw (← grid, ← tested, ← asked, h) in
+            boxed
+            ∙ ap (λ (y : Reason). addLoad noTag onTape tt y l worldBox (world (w .state) (w .out) k m)) why
+            ∙ ap (λ (l : ℕ). addLoad noTag onTape tt (collapseReason test) l worldBox (world (w .state) (w .out) k m)) e
+            ∙ sym rules ∙ counted-is
 
-        pub expanded : collapses ≡ false → (share : ℕ) → share ≡ sourceUnits units count
+        pub expanded : boxes ≡ false → (share : ℕ) → share ≡ sourceUnits units count
             → ending (each (turn share) count 0 (world (w .state) (w .out) k m)) ≡ visitCountedReference noTag onTape (sheetOf s) cells q deeper depth tt r transform sourceBox worldBox u w
         unfolding visitCountedReference
         expanded h share e =
-            let deep : 1 < depth = expands-deep sourceBox worldBox count units (sym tested ∙ h) in
+            let deep : 1 < depth = expands-deep sourceBox worldBox count units (sym (ap collapses tested) ∙ sym asked ∙ h) in
             let rules : visitCountedReference noTag onTape (sheetOf s) cells q deeper depth tt r transform sourceBox worldBox (counted units k m) w ≡ ending (each (turn share) count 0 (world (w .state) (w .out) k m)) =
-            rw (← grid, ← tested, h, ← e, Paths.deeper-is noTag onTape (sheetOf s) cells q depth (omega arith), member-by-member share (world (w .state) (w .out) k m), ← grid) in
+            rw (← grid, ← tested, ← asked, h, ← e, Paths.deeper-is noTag onTape (sheetOf s) cells q depth (omega arith), member-by-member share (world (w .state) (w .out) k m), ← grid) in
             sym rules ∙ counted-is

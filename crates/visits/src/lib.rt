@@ -1,24 +1,23 @@
 // The visits: `visit_cell`, `visit_reference` and `visit_source` of bevy_scene.rs, three functions in a cycle of calls.
 // Depth and call position fall: a reference visits its source one depth below, a source a cell or a reference, and a cell its references, at its own depth.
-// Every function is total. What it leaves of the plan, the output and the scratch is what the rules' definition of the same name says.
+// Each is total. What it leaves of the plan, the output and the scratch is what the rules' definition of the same name says.
 use geometry::placement::Placement;
-use plan_rules::SceneOptions;
+use plan_rules::Fixed;
+use plan_rules::Reason;
 use plan_rules::ScenePlan;
 use pushes::Visited;
 use records::PreparedSource;
+use visit_items::OpenCell;
 use walk::Found;
 ghost use mathlib.Core.Path.{_≡_};
 ghost use Rattle.abstract_sheet.specs.Sheet.{sheetOf};
-ghost use Rattle.plan_rules.specs.World.{queryOf, world, flow};
-ghost use Rattle.plan_rules.specs.Visit.{visitCell, visitReference, visitSource};
-ghost use Rattle.plan_rules.specs.Tape.{noTag, onTape};
+ghost use Rattle.plan_rules.specs.World.{flow};
+ghost use Rattle.plan_rules.specs.OnTape.{lent, visitCell, visitReference, visitSource};
 
 pub fn visit_cell(
     sheet: &[u8],
-    cells: u32,
-    query: SceneOptions,
+    fixed: Fixed,
     hidden: &[u32],
-    object_limit: u64,
     out: &mut [u8],
     counts: &mut [u64],
     marks: &mut [u8],
@@ -27,56 +26,41 @@ pub fn visit_cell(
     transform: Placement,
     depth: u32,
 ) -> ScenePlan
-    ensures { λ r. ⌜ world r (now (out .exit)) (now (counts .exit)) (now (marks .exit)) ≡ visitCell noTag onTape (sheetOf (now (sheet .entry))) cells (queryOf query (now (hidden .entry)) «object_limit») depth tt cell transform (world plan (now (out .entry)) (now (counts .entry)) (now (marks .entry))) ⌝ }
+    ensures { λ r. ⌜ lent r (out .exit) (counts .exit) (marks .exit) ≡ visitCell (sheetOf (now (sheet .entry))) fixed (now (hidden .entry)) depth cell transform (lent plan (out .entry) (counts .entry) (marks .entry)) ⌝ }
 {
-    let Found::At(at) = walk::find(sheet, 5, cell) else {
+    let Found::At(at) = look_up::look_up(sheet, 5, cell) else {
         return plan; // the sheet lacks the cell
     };
-    let entered = visit_steps::cell::enter_cell(
-        sheet,
-        cells,
-        query,
-        object_limit,
-        out,
-        marks,
-        plan,
-        cell,
-        at,
-        transform,
-    );
+    let record = records::cell_at(sheet, at);
+    let bbox = record.bbox;
+    let entered = visit_steps::cell::enter_cell(fixed, out, marks, plan, cell, bbox, transform);
     let opened = entered.plan;
     if !entered.goes {
         return opened;
     }
     let bounds = entered.bounds;
-    let listed = visit_items::push_items(
-        sheet,
-        query,
-        hidden,
-        object_limit,
-        out,
-        opened,
-        cell,
+    let open_cell = OpenCell {
+        number: cell,
         at,
+        record,
         transform,
         bounds,
-    );
+    };
+    let listed = visit_items::push_items(sheet, fixed, hidden, out, opened, open_cell);
     let references = listed.references;
     let mut next = listed.plan;
     let mut i: u32 = 0;
     while i < references {
-        if pushes::detail_budget_exhausted(next, object_limit) {
-            let boxed = pushes::add_load_if_boxed(out, next, cell, bounds);
-            units::stack_remove(marks, cells, units::CELL_STACK, cell);
+        if limits::detail_budget_exhausted(fixed, next) {
+            let boxed = visit_items::load_cell(out, next, open_cell);
+            scratch::stack_remove(marks, fixed.counts.cells, scratch::CELL_STACK, cell);
             return boxed;
         }
         let reference = records::cell_reference_at(sheet, at, i);
         next = visit_reference(
             sheet,
-            cells,
-            query,
+            fixed,
             hidden,
-            object_limit,
             out,
             counts,
             marks,
@@ -87,16 +71,14 @@ pub fn visit_cell(
         );
         i += 1;
     }
-    units::stack_remove(marks, cells, units::CELL_STACK, cell);
+    scratch::stack_remove(marks, fixed.counts.cells, scratch::CELL_STACK, cell);
     next
 }
 
-pub fn visit_reference(
+fn visit_reference(
     sheet: &[u8],
-    cells: u32,
-    query: SceneOptions,
+    fixed: Fixed,
     hidden: &[u32],
-    object_limit: u64,
     out: &mut [u8],
     counts: &mut [u64],
     marks: &mut [u8],
@@ -105,21 +87,14 @@ pub fn visit_reference(
     transform: Placement,
     depth: u32,
 ) -> ScenePlan
-    ensures { λ r. ⌜ world r (now (out .exit)) (now (counts .exit)) (now (marks .exit)) ≡ visitReference noTag onTape (sheetOf (now (sheet .entry))) cells (queryOf query (now (hidden .entry)) «object_limit») depth tt number transform (world plan (now (out .entry)) (now (counts .entry)) (now (marks .entry))) ⌝ }
+    ensures { λ r. ⌜ lent r (out .exit) (counts .exit) (marks .exit) ≡ visitReference (sheetOf (now (sheet .entry))) fixed (now (hidden .entry)) depth number transform (lent plan (out .entry) (counts .entry) (marks .entry)) ⌝ }
 {
-    let Found::At(at) = walk::find(sheet, 4, number) else {
+    let Found::At(at) = look_up::look_up(sheet, 4, number) else {
         return plan; // no sheet that passes question 7 names such a reference
     };
     let reference = records::reference_at(sheet, at);
     let source = reference.source;
-    let opened = visit_steps::reference::open_reference(
-        query,
-        object_limit,
-        out,
-        plan,
-        reference,
-        transform,
-    );
+    let opened = visit_steps::reference::open_reference(fixed, out, plan, reference, transform);
     let mut next = opened.plan;
     if !opened.goes {
         return next;
@@ -127,16 +102,32 @@ pub fn visit_reference(
     let source_bbox = opened.source_bbox;
     let world_bbox = opened.world_bbox;
     let count = geometry::grid::grid_count(reference.grid);
-    let draw_units = units::reference_draw_units(sheet, cells, counts, marks, number, depth);
-    if visit_steps::reference::collapses(query, source_bbox, world_bbox, count, draw_units, depth) {
-        return pushes::add_load(out, next, visit_values::label(source), world_bbox);
+    let draw_units = units::reference_draw_units(
+        sheet,
+        fixed.counts.cells,
+        counts,
+        marks,
+        reference,
+        depth,
+    );
+    let test = visit_steps::reference::reference_test(
+        fixed,
+        source_bbox,
+        world_bbox,
+        count,
+        draw_units,
+        depth,
+    );
+    let label = records::label(source);
+    if geometry::screen::collapses(test) {
+        let why = visit_steps::reference::collapse_reason(test);
+        return pushes::add_load(out, next, why, label, world_bbox);
     }
-    let share = visit_values::source_units(draw_units, count);
+    let share = units::source_units(draw_units, count);
     let mut i: u64 = 0;
     while i < count {
         let tried = visit_steps::member::try_member(
-            query,
-            object_limit,
+            fixed,
             out,
             next,
             reference,
@@ -151,10 +142,8 @@ pub fn visit_reference(
         if tried.opens {
             let visited = visit_source(
                 sheet,
-                cells,
-                query,
+                fixed,
                 hidden,
-                object_limit,
                 out,
                 counts,
                 marks,
@@ -165,7 +154,7 @@ pub fn visit_reference(
             );
             next = visited.plan;
             if !visited.whole {
-                return pushes::add_load(out, next, visit_values::label(source), tried.bbox);
+                return pushes::add_load(out, next, Reason::OtherLimit, label, tried.bbox);
             }
         } else if !tried.whole {
             return next;
@@ -176,12 +165,10 @@ pub fn visit_reference(
 }
 
 // `false` if a limit stopped the points of a node.
-pub fn visit_source(
+fn visit_source(
     sheet: &[u8],
-    cells: u32,
-    query: SceneOptions,
+    fixed: Fixed,
     hidden: &[u32],
-    object_limit: u64,
     out: &mut [u8],
     counts: &mut [u64],
     marks: &mut [u8],
@@ -190,16 +177,14 @@ pub fn visit_source(
     transform: Placement,
     depth: u32,
 ) -> Visited
-    ensures { λ r. ⌜ flow (r .whole) (world (r .plan) (now (out .exit)) (now (counts .exit)) (now (marks .exit))) ≡ visitSource noTag onTape (sheetOf (now (sheet .entry))) cells (queryOf query (now (hidden .entry)) «object_limit») depth tt source transform (world plan (now (out .entry)) (now (counts .entry)) (now (marks .entry))) ⌝ }
+    ensures { λ r. ⌜ flow (r .whole) (lent (r .plan) (out .exit) (counts .exit) (marks .exit)) ≡ visitSource (sheetOf (now (sheet .entry))) fixed (now (hidden .entry)) depth source transform (lent plan (out .entry) (counts .entry) (marks .entry)) ⌝ }
 {
     match source {
         PreparedSource::Cell(cell) => {
             let next = visit_cell(
                 sheet,
-                cells,
-                query,
+                fixed,
                 hidden,
-                object_limit,
                 out,
                 counts,
                 marks,
@@ -214,23 +199,14 @@ pub fn visit_source(
             }
         }
         PreparedSource::Geometry(number) => {
-            let next = pushes::push_geometry(
-                sheet,
-                query,
-                hidden,
-                object_limit,
-                out,
-                plan,
-                number,
-                transform,
-            );
+            let next = pushes::push_geometry(sheet, fixed, hidden, out, plan, number, transform);
             Visited {
                 plan: next,
                 whole: true,
             }
         }
         PreparedSource::Text(number) => {
-            let next = pushes::push_text(sheet, query, hidden, out, plan, number, transform);
+            let next = pushes::push_text(sheet, fixed, hidden, out, plan, number, transform);
             Visited {
                 plan: next,
                 whole: true,
@@ -238,9 +214,8 @@ pub fn visit_source(
         }
         PreparedSource::Node(number) => pushes::push_node(
             sheet,
-            query,
+            fixed,
             hidden,
-            object_limit,
             out,
             plan,
             number,
@@ -249,10 +224,8 @@ pub fn visit_source(
         PreparedSource::Reference(number) => {
             let next = visit_reference(
                 sheet,
-                cells,
-                query,
+                fixed,
                 hidden,
-                object_limit,
                 out,
                 counts,
                 marks,

@@ -1,7 +1,7 @@
 -- Facts of every record of a sheet, and of the one that is found.
 -- Assumes nothing.
-use mathlib.Core.Path.{_≡_, refl, sym, subst}
-use Prim.Native.Nat.{ℕ, zero, suc, _+_, _-_, _≤_, _<_}
+use mathlib.Core.Path.{_≡_, refl, subst}
+use Prim.Native.Nat.{ℕ, zero, suc, _+_, _≤_, _<_}
 use native.Mathlib.Omega.{arith}
 use mathlib.Core.List.{List, [], _∷_}
 use mathlib.Core.Bool.{Bool, true, false, cond}
@@ -10,15 +10,11 @@ use lib.ListN.{length, getElem?}
 use lib.Dec.{eqb}
 use borrow.Author.Tests.{eqb-true}
 use Rattle.walk.specs.Offsets.{lengthAt, kindAt, offsetsFrom, offsets}
-use Rattle.walk.proofs.Offsets.{by-order, offsets-end, offsets-more, offsets-bad}
-use Rattle.walk.specs.Find.{ofKindIn, ofKind, countOf, find}
-use Rattle.walk.proofs.Finding.{countIn, found-at}
+use Rattle.walk.proofs.Offsets.{by-order, offsets-more, offsets-bad}
+use Rattle.walk.specs.Find.{ofKindIn, ofKind, find}
+use Rattle.walk.proofs.Finding.{found-at}
 use Rattle.walk.specs.declared.Found.the-variants.{At}
 use Rattle.walk.specs.Every.{All}
-
-pub all-map : (P Q : ℕ → Type 0) → ((x : ℕ) → P x → Q x) → (xs : List ℕ) → All P xs → All Q xs
-all-map P Q g [] h = tt
-all-map P Q g (x ∷ xs) h = (g x (h .0), all-map P Q g xs (h .1))
 
 -- where a fact of a record says that it has its head, it holds of the record at hand, and of those after it
 pub all-step : (s : List ℕ) (P : ℕ → Type 0) (at : ℕ) → (P at → 6 ≤ lengthAt s at) → All P (offsetsFrom s at) → at < length s
@@ -29,21 +25,6 @@ all-step s P at g h k =
     (λ m.
     let w : 6 ≤ lengthAt s at = g ((subst (All P) (offsets-bad s at k m) h) .0) in
     absurd (omega arith))
-
--- every record starts within the sheet
-module _ (s : List ℕ) where
-  starts-in : (steps at : ℕ) → length s ≤ at + steps → All (λ x. x < length s) (offsetsFrom s at)
-  starts-in zero at h = subst (All _) (sym (offsets-end s at (omega arith))) tt
-  starts-in (suc steps) at h =
-      by-order (length s) at
-      (λ e. subst (All _) (sym (offsets-end s at e)) tt)
-      (λ e.
-      by-order 6 (lengthAt s at)
-      (λ k. subst (All _) (sym (offsets-more s at e k)) (e, starts-in steps (at + lengthAt s at) (omega arith)))
-      (λ k. subst (All _) (sym (offsets-bad s at e k)) (e, tt)))
-
-  pub offsets-start-within : All (λ x. x < length s) (offsets s)
-  offsets-start-within = starts-in (length s) 0 (omega arith)
 
 -- what all records have, those of a kind have, and they are of the kind
 module _ (s : List ℕ) (kind : ℕ) (P : ℕ → Type 0) where
@@ -67,31 +48,3 @@ all-nth P (x ∷ xs) (suc n) at h e = all-nth P xs n at (h .1) e
 -- what is found has what all records have, and is of the kind
 pub find-all : (s : List ℕ) (kind n at : ℕ) (P : ℕ → Type 0) → All P (offsets s) → find s kind n ≡ At at → P at × (kindAt s at ≡ kind)
 find-all s kind n at P h e = all-nth _ (ofKind s kind) n at (all-of-kind s kind P (offsets s) h) (found-at s kind n at e)
-
--- what is found starts within the sheet and is of the kind
-pub find-within : (s : List ℕ) (kind n at : ℕ) → find s kind n ≡ At at → (at < length s) × (kindAt s at ≡ kind)
-find-within s kind n at e = find-all s kind n at (λ x. x < length s) (offsets-start-within s) e
-
--- a sheet has no more records of a kind than bytes
-module _ (s : List ℕ) where
-  records-at-most-bytes : (steps at : ℕ) → length s ≤ at + steps → length (offsetsFrom s at) ≤ length s - at
-  records-at-most-bytes zero at h = rw (offsets-end s at (omega arith)) (omega arith)
-  records-at-most-bytes (suc steps) at h =
-      by-order (length s) at
-      (λ e. rw (offsets-end s at e) (omega arith))
-      (λ e.
-      by-order 6 (lengthAt s at)
-      (λ k. rw (offsets-more s at e k) (omega (arith, records-at-most-bytes steps (at + lengthAt s at) (omega arith))))
-      (λ k. rw (offsets-bad s at e k) (omega arith)))
-
-  count-at-most-records : (kind : ℕ) (xs : List ℕ) → countIn s kind xs ≤ length xs
-  unfolding ofKindIn
-  count-at-most-records kind [] = omega arith
-  count-at-most-records kind (x ∷ xs) = by-kind (count-at-most-records kind xs) (eqb (kindAt s x) kind)
-    where
-      by-kind : countIn s kind xs ≤ length xs → (b : Bool) → length (cond b (x ∷ ofKindIn s kind xs) (ofKindIn s kind xs)) ≤ suc (length xs)
-      by-kind h true = omega arith
-      by-kind h false = omega arith
-
-  pub count-at-most-bytes : (kind : ℕ) → countOf s kind ≤ length s
-  count-at-most-bytes kind = omega (arith, count-at-most-records kind (offsets s), records-at-most-bytes (length s) 0 (omega arith))

@@ -1,4 +1,4 @@
--- The steps by which a walk finds a record by its number, and the laws of what is found.
+-- The steps by which a walk finds a record by its number, which numbers are found, and how a record adds to the count of its kind.
 -- Assumes nothing.
 use mathlib.Core.Path.{_≡_, refl, ap, _∙_}
 use Prim.Native.Nat.{ℕ, zero, suc, _+_, _-_, _≤_, _<_}

@@ -1,6 +1,6 @@
--- Facts about this crate's definitions and code.
+-- What a walk over the records rests on.
 --     Offsets      the three equations of the list of offsets, which are all that a walk needs
---     Finding      the steps by which a walk finds a record by its number
+--     Finding      the steps by which a walk finds a record by its number, and which numbers are found
 --     Every        facts of every record, and of the one that is found
 -- Assumes nothing.
 pub mod Offsets

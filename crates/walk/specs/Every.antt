@@ -1,5 +1,5 @@
--- Facts of every record: how a walk carries them, and how they reach the record that is looked up.
--- Definitions only.
+-- A fact of every record of a list.
+-- Definitions only. Assumes nothing.
 use Prim.Native.Nat.{ℕ}
 use mathlib.Core.List.{List, [], _∷_}
 

@@ -1,5 +1,5 @@
--- What is found by its number: document 01's "Items count from 0 within their kind", and the steps by which a walk finds it.
--- Definitions only.
+-- What is found by its number: document 01's "Items count from 0 within their kind".
+-- Definitions only. Assumes nothing.
 use Prim.Native.Nat.{ℕ}
 use mathlib.Core.List.{List, [], _∷_}
 use mathlib.Core.Bool.{cond}

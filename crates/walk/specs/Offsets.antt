@@ -1,6 +1,6 @@
--- Where the records of a sheet are: the list of their offsets, and the three equations of that list, which are all that a walk needs.
+-- Where the records of a sheet are: the list of their offsets.
 -- Document 01: "Records run to the end of the bytes, little-endian: whole length (4 bytes), kind (2), body."
--- Definitions only.
+-- Definitions only. Assumes nothing.
 use Prim.Native.Nat.{ℕ, zero, suc, _+_, _≤_}
 use mathlib.Core.List.{List, [], _∷_}
 use mathlib.Core.Bool.{cond}

@@ -1,6 +1,9 @@
-// The records of a sheet: the walk from the start, and the look-up by number.
+// The walk over the records of a sheet, from the start, to the one with a number.
 ghost use mathlib.Core.Path.{_≡_};
 ghost use Rattle.walk.specs.Find.{find};
+
+// Where a record's kind stands: "whole length (4 bytes), kind (2), body".
+pub const KIND: usize = 4;
 
 // What a look-up finds: the offset of a record, or nothing.
 pub enum Found {
@@ -15,7 +18,7 @@ pub fn find(s: &[u8], kind: u16, number: u32) -> Found
     let mut at = 0;
     let mut left = number;
     while at < s.len() {
-        if fields::u16_at(s, at + 4) == kind {
+        if fields::u16_at(s, at + KIND) == kind {
             if left == 0 {
                 return Found::At(at);
             }

@@ -1,5 +1,6 @@
 //! The stored answers: which cases they hold, how they are made, and how they are read again.
-//! cases.bin: for each case the input's length and the text's length (4 bytes each, little-endian), then both.
+//! The cases stand where `plan_vectors` replays them, in crates/plan_vectors/stdin: for each the input's length and the
+//! text's length (4 bytes each, little-endian), then both.
 
 mod chosen;
 
@@ -12,6 +13,8 @@ use crate::coverage::{Coverage, TAGS, tags};
 use crate::generator::{FAMILIES, edges, family, faults, large::LARGE, make, make_edge, make_large};
 use crate::variants::{JUDGE, checked};
 
+/// The small cases, seen from the folder of the store.
+const CASES: &str = "../../crates/plan_vectors/stdin";
 /// Every stored input is shorter than this.
 const MOST_INPUT: usize = 4_096;
 /// Every stored text is at most this, so that a program without a heap can hold it.
@@ -26,7 +29,7 @@ pub struct Entry {
     pub input: Vec<u8>,
 }
 
-/// A case as it stands in cases.bin.
+/// A case as it is stored.
 pub struct Case {
     pub input: Vec<u8>,
     pub text: Vec<u8>,
@@ -66,7 +69,7 @@ pub fn is_small(input: &[u8]) -> bool {
     input.len() < MOST_INPUT && answer(input).text.len() <= MOST_TEXT
 }
 
-/// The three files of the store, as bytes: cases.bin, cases.txt, large.txt.
+/// The three files of the store, as bytes: the cases, their names, the large cases.
 pub fn make_files() -> [(&'static str, Vec<u8>); 3] {
     let (mut packed, mut names) = (Vec::new(), String::new());
     for (number, entry) in entries().into_iter().enumerate() {
@@ -97,7 +100,7 @@ pub fn make_files() -> [(&'static str, Vec<u8>); 3] {
             tags.join(" ")
         );
     }
-    [("cases.bin", packed), ("cases.txt", names.into_bytes()), ("large.txt", large.into_bytes())]
+    [(CASES, packed), ("cases.txt", names.into_bytes()), ("large.txt", large.into_bytes())]
 }
 
 /// Number of stored cases by tag, small and large, as their lines say.
@@ -137,7 +140,7 @@ pub fn verify(folder: &Path) -> usize {
 }
 
 pub fn read_cases(folder: &Path) -> Vec<Case> {
-    let bytes = fs::read(folder.join("cases.bin")).expect("stored/cases.bin");
+    let bytes = fs::read(folder.join(CASES)).expect("crates/plan_vectors/stdin");
     let length = |at: usize| u32::from_le_bytes(bytes[at..at + 4].try_into().unwrap()) as usize;
     let mut cases = Vec::new();
     let mut at = 0;

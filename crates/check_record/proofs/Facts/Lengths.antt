@@ -8,17 +8,19 @@ use mathlib.Core.Bool.{Bool, true, cond}
 use lib.Dec.{T, eqb}
 use borrow.Author.Tests.{leb-true, eqb-true, ne-eqb}
 use Rattle.walk.specs.Offsets.{lengthAt, kindAt}
+use Rattle.records.specs.Format as format
+use Rattle.records.specs.Format.{f, endOf}
 use Rattle.check_record.proofs.Tests.{both-first, both-second}
 use Rattle.check_record.specs.Shape.{listsAt, lengthOk, shapeOk}
 use Rattle.check_record.specs.Floats.{floatsFrom, floatsCount}
 
 -- the length of a record of each kind, where a cell's lists have m numbers together
 pub record Sized (kind n m : ℕ) : Type 0 where
-  pub geometry : kind ≡ 1 → n ≡ 46
-  pub text : kind ≡ 2 → (26 ≤ n) × (n ≤ 538)
-  pub node : kind ≡ 3 → (26 ≤ n) × (n ≤ 810) × ((n - 10) % 16 ≡ 0)
-  pub reference : kind ≡ 4 → n ≡ 122
-  pub cell : kind ≡ 5 → n ≡ 56 + 4 * m
+  pub geometry : kind ≡ 1 → n ≡ endOf format.geometry
+  pub text : kind ≡ 2 → (endOf format.text ≤ n) × (n ≤ endOf format.text + 512)
+  pub node : kind ≡ 3 → (endOf format.node + 2 * f * 1 ≤ n) × (n ≤ endOf format.node + 2 * f * 50) × ((n - endOf format.node) % (2 * f) ≡ 0)
+  pub reference : kind ≡ 4 → n ≡ endOf format.reference
+  pub cell : kind ≡ 5 → n ≡ endOf format.cell + 4 * m
 
 pub shape-sized : (s : List ℕ) (at : ℕ) → shapeOk s at ≡ true → Sized (kindAt s at) (lengthAt s at) (listsAt s at)
 unfolding shapeOk lengthOk
@@ -51,7 +53,7 @@ pub shape-known : (s : List ℕ) (at : ℕ) → shapeOk s at ≡ true → (1 ≤
 unfolding shapeOk
 shape-known s at e = known _ _ _ e
 
-room : (kind n m : ℕ) → Sized kind n m → (1 ≤ kind) × (kind ≤ 5) → (10 ≤ n) × (floatsFrom kind + 8 * floatsCount kind n ≤ n)
+room : (kind n m : ℕ) → Sized kind n m → (1 ≤ kind) × (kind ≤ 5) → (endOf format.node ≤ n) × (floatsFrom kind + 8 * floatsCount kind n ≤ n)
 unfolding floatsFrom floatsCount
 room zero n m z h = absurd (omega arith)
 room (suc zero) n m z h = omega (arith, z .geometry refl)
@@ -63,5 +65,5 @@ room (suc (suc (suc (suc (suc (suc k)))))) n m z h = absurd (omega arith)
 
 -- a record's floats lie within it
 pub floats-within : (s : List ℕ) (at : ℕ) → shapeOk s at ≡ true
-    → (10 ≤ lengthAt s at) × (floatsFrom (kindAt s at) + 8 * floatsCount (kindAt s at) (lengthAt s at) ≤ lengthAt s at)
+    → (endOf format.node ≤ lengthAt s at) × (floatsFrom (kindAt s at) + 8 * floatsCount (kindAt s at) (lengthAt s at) ≤ lengthAt s at)
 floats-within s at e = room _ _ _ (shape-sized s at e) (shape-known s at e)

@@ -1,4 +1,4 @@
--- From question 4: what columns, rows, flags, sources and absent boxes are in a record that passes it.
+-- From question 4: what columns, rows, flags, sources and absent boxes are in a reference that passes it.
 -- Assumes nothing.
 use mathlib.Core.Path.{_≡_, sym, ap, _∙_}
 use Prim.Native.Nat.{ℕ, zero, suc, _+_, _*_, _/_, _%_, _^_, _≤_, _<_}
@@ -12,9 +12,11 @@ use Rattle.fields.specs.Field.{uintAt}
 use Rattle.fields.proofs.Reading.{uintAt-add}
 use Rattle.fields.proofs.Writing.{pow256-pos}
 use Rattle.walk.specs.Offsets.{kindAt}
+use Rattle.records.specs.Format as field
+use Rattle.records.specs.Format.{reference, offsetIn, fieldAt}
 use Rattle.check_record.specs.Tests.{both}
 use Rattle.check_record.proofs.Tests.{both-first, both-second}
-use Rattle.check_record.specs.Values.{zeroBox, sourceOk, gridOk, referenceOk, cellOk, valuesOk}
+use Rattle.check_record.specs.Values.{zeroBox, sourceOk, gridOk, referenceOk, valuesOk}
 
 -- ---- An absent box, in fields of eight bytes
 
@@ -36,7 +38,7 @@ zero-box-fields s at =
     ∙ ap (λ (b : Bool). both b (eqb (uintAt 8 s (at + 24)) 0))
     (fields-zero 16 8 s at ∙ ap (λ (b : Bool). both b (eqb (uintAt 8 s (at + 16)) 0)) (fields-zero 8 8 s at))
 
--- ---- A reference's numbers and a cell's flags
+-- ---- A reference's numbers
 
 present-or : (b c : Bool) → cond b true c ≡ true → b ≡ false → c ≡ true
 present-or b c e f = rw f at e
@@ -70,20 +72,7 @@ grid-ok columns rows flags kind number zeros e =
     }
 
 pub reference-values : (s : List ℕ) (at : ℕ) → valuesOk s at ≡ true → kindAt s at ≡ 4
-    → GridOk (uintAt 2 s (at + 6)) (uintAt 2 s (at + 8)) (uintAt 2 s (at + 10)) (uintAt 2 s (at + 12)) (uintAt 4 s (at + 14)) (zeroBox s (at + 90))
+    → GridOk (fieldAt reference field.columns s at) (fieldAt reference field.rows s at) (fieldAt reference field.flags s at)
+    (fieldAt reference field.sourceKind s at) (fieldAt reference field.sourceNumber s at) (zeroBox s (at + offsetIn reference field.box))
 unfolding valuesOk referenceOk
 reference-values s at e k = grid-ok _ _ _ _ _ _ (rw k at e)
-
--- what question 4 says of a cell
-pub record FlagsOk (flags : ℕ) (zeros : Bool) : Type 0 where
-  pub spare-bits : flags < 2
-  pub absent-box : (flags ≡ 1 → ⊥) → zeros ≡ true
-
-pub cell-values : (s : List ℕ) (at : ℕ) → valuesOk s at ≡ true → kindAt s at ≡ 5 → FlagsOk (uintAt 2 s (at + 6)) (zeroBox s (at + 16))
-unfolding valuesOk cellOk
-cell-values s at e k =
-    let flags = rw k at e in
-    record {
-      spare-bits = ltb-true _ _ (both-first _ _ flags);
-      absent-box = λ k. present-or _ _ (both-second _ _ flags) (ne-eqb _ _ k);
-    }

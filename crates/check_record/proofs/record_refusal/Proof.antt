@@ -1,4 +1,4 @@
--- `questions::record_refusal` meets its contract: the questions are asked in order, and the first no is given.
+-- `check_record::record_refusal` meets its contract: the questions are asked in order, and the first no is given.
 -- Assumes nothing.
 use mathlib.Core.Path.{sym, _∙_}
 use Rattle.check_record.specs.Record.{recordRefusal}

@@ -9,24 +9,25 @@ use lib.Dec.{T as Yes}
 use Rattle.geometry.specs.declared.placement.Placement.{Placement}
 use Rattle.geometry.specs.declared.bbox.WorldBBox.{WorldBBox}
 use Rattle.geometry.specs.declared.bbox.Bounds.{Bounds}
-use Rattle.geometry.specs.Bbox.{boxed, transformBbox}
+use Rattle.geometry.specs.Bbox.{boxed, transformBbox, transformBounds, isOutside}
 use Rattle.abstract_sheet.specs.Sheet.{CellRecord, Sheet}
 use Rattle.exact.specs.Placement.{ExactPlacement, IsPlacement, AtLevel, deepestLevel}
 use Rattle.exact.specs.Box.{IsBox, boxOf, place}
+use Rattle.plan_rules.specs.declared.Reason.{Reason}
 use Rattle.plan_rules.specs.Event.{detailCell, Step, batchAt, textAt, nodeAt, referenceAt}
 use Rattle.plan_rules.specs.World.{Query, detailCellsFull, detailBudgetExhausted, World, Flow, go, halt, ending, each, setMark}
 use Rattle.plan_rules.specs.Scratch.{openPlace, isMarked}
 use Rattle.plan_rules.specs.Push.{say, addLoadIfBoxed, pushGeometry, pushText, pushNode}
-use Rattle.plan_rules.specs.Visit.{transformBounds, isOutside, haltWithCell, VisitReference, geometryStep, textStep, nodeStep, referenceStep, cellBody, visitFoundCell, visitReference}
+use Rattle.plan_rules.specs.Visit.{haltWithCell, VisitReference, geometryStep, textStep, nodeStep, referenceStep, cellBody, visitFoundCell, visitReference}
 use Rattle.plan_rules.specs.Tape.{note}
 use Rattle.plan_rules.proofs.Invariant.{geometry-step-kept, text-step-kept, node-step-kept, reference-step-kept}
+use Rattle.paths.specs.Square.{Square}
+use Rattle.paths.proofs.Square.{bounds-square}
 use Rattle.cover.specs.Path.{Path, Item}
-use Rattle.cover.specs.Square.{Square}
 use Rattle.cover.specs.View.{WithinBox, WholeView, InView}
 use Rattle.cover.specs.Trace.{enter}
 use Rattle.cover.proofs.Tests.{cond-case}
 use Rattle.cover.proofs.TagPaths.{Tagged}
-use Rattle.cover.proofs.Reading.{bounds-square}
 use Rattle.cover.proofs.Exactness.{placed-box}
 use Rattle.cover.proofs.Loops.{OnGo, OnHalt, Keeps, each-halts, each-keeps, each-covers, in-first, in-second, in-third, in-fourth}
 use Rattle.cover.proofs.Cover.Claims.{view-touches, not-culled, Claimed, Grown, grown, load-if-boxed-claims}
@@ -38,33 +39,33 @@ module _ (S : Sheet) (cells : ℕ) (q : Query) where
   -- ---- the four loops, where the cell's box claims the path
 
   module _ (d : ℕ) (t : List Step) (n : ℕ) (c : CellRecord) (e : S .cell n ≡ some c) (p : Placement) (box : Bounds) (g : Path) (h : Item)
-      (full : (w : World Tagged) → Claimed g h (addLoadIfBoxed enter note t n box w)) where
+      (full : (y : Reason) (w : World Tagged) → Claimed g h (addLoadIfBoxed enter note t y n box w)) where
     abbrev Q : World Tagged → Type 0
     Q w = Claimed g h w
 
     cell-halts : (x : Flow Tagged) → OnHalt Q (haltWithCell enter note t n box x)
     cell-halts (go w) = tt
-    cell-halts (halt w) = full w
+    cell-halts (halt w) = full _ w
 
     cell-claims : (x : Flow Tagged) → OnGo Q x → Q (ending (haltWithCell enter note t n box x))
     cell-claims (go w) k = k
-    cell-claims (halt w) k = full w
+    cell-claims (halt w) k = full _ w
 
     geometry-halts : (i : ℕ) (w : World Tagged) → OnHalt Q (geometryStep enter note S cells q t n c p box i w)
     unfolding geometryStep
-    geometry-halts i w = cond-case (OnHalt Q) (detailBudgetExhausted q (w .state)) _ _ (λ _. full w) (λ _. tt)
+    geometry-halts i w = cond-case (OnHalt Q) (detailBudgetExhausted q (w .state)) _ _ (λ _. full _ w) (λ _. tt)
 
     text-halts : (i : ℕ) (w : World Tagged) → OnHalt Q (textStep enter note S cells q t n c p box i w)
     unfolding textStep
-    text-halts i w = cond-case (OnHalt Q) (detailBudgetExhausted q (w .state)) _ _ (λ _. full w) (λ _. tt)
+    text-halts i w = cond-case (OnHalt Q) (detailBudgetExhausted q (w .state)) _ _ (λ _. full _ w) (λ _. tt)
 
     node-halts : (i : ℕ) (w : World Tagged) → OnHalt Q (nodeStep enter note S cells q t n c p box i w)
     unfolding nodeStep
-    node-halts i w = cond-case (OnHalt Q) (detailBudgetExhausted q (w .state)) _ _ (λ _. full w) (λ _. cell-halts (pushNode enter note S q (nodeAt i ∷ t) (c .nodes .at i) p w))
+    node-halts i w = cond-case (OnHalt Q) (detailBudgetExhausted q (w .state)) _ _ (λ _. full _ w) (λ _. cell-halts (pushNode enter note S q (nodeAt i ∷ t) (c .nodes .at i) p w))
 
     reference-halts : (i : ℕ) (w : World Tagged) → OnHalt Q (referenceStep enter note S cells q t n c p box (visits d) i w)
     unfolding referenceStep
-    reference-halts i w = cond-case (OnHalt Q) (detailBudgetExhausted q (w .state)) _ _ (λ _. full w) (λ _. tt)
+    reference-halts i w = cond-case (OnHalt Q) (detailBudgetExhausted q (w .state)) _ _ (λ _. full _ w) (λ _. tt)
 
     geometry-keeps : (i : ℕ) → i < c .geometries .count → Keeps Q (geometryStep enter note S cells q t n c p box i)
     geometry-keeps = geometry-step-kept enter note S cells q (Grown g h) (grown g h) d t n c p box e
@@ -107,7 +108,7 @@ module _ (S : Sheet) (cells : ℕ) (q : Query) where
     in-geometries i i< self w =
         in-first Q (geometries w) texts nodes references
         (each-covers Q (geometryStep enter note S cells q t n c p box) (c .geometries .count) i i< geometry-keeps (λ b _ w. geometry-halts b w)
-        (λ w. cond-case EndsWell (detailBudgetExhausted q (w .state)) _ _ (λ _. full w) (λ _. self w)) (c .geometries .count) 0 (omega arith) (omega arith) w)
+        (λ w. cond-case EndsWell (detailBudgetExhausted q (w .state)) _ _ (λ _. full _ w) (λ _. self w)) (c .geometries .count) 0 (omega arith) (omega arith) w)
         texts-keep nodes-keep references-keep
 
     pub in-texts : (i : ℕ) → i < c .texts .count → ((w : World Tagged) → Q (pushText enter note S q (textAt i ∷ t) (c .texts .at i) p w)) → (w : World Tagged) → Q (ending (cellBody enter note S cells q t n c p box (visits d) w))
@@ -115,7 +116,7 @@ module _ (S : Sheet) (cells : ℕ) (q : Query) where
     in-texts i i< self w =
         in-second Q (geometries w) texts nodes references (each-halts Q _ geometry-halts (c .geometries .count) 0 w)
         (each-covers Q (textStep enter note S cells q t n c p box) (c .texts .count) i i< text-keeps (λ b _ w. text-halts b w)
-        (λ w. cond-case EndsWell (detailBudgetExhausted q (w .state)) _ _ (λ _. full w) (λ _. self w)) (c .texts .count) 0 (omega arith) (omega arith))
+        (λ w. cond-case EndsWell (detailBudgetExhausted q (w .state)) _ _ (λ _. full _ w) (λ _. self w)) (c .texts .count) 0 (omega arith) (omega arith))
         nodes-keep references-keep
 
     pub in-nodes : (i : ℕ) → i < c .nodes .count → ((w : World Tagged) → OnGo Q (pushNode enter note S q (nodeAt i ∷ t) (c .nodes .at i) p w)) → (w : World Tagged) → Q (ending (cellBody enter note S cells q t n c p box (visits d) w))
@@ -123,7 +124,7 @@ module _ (S : Sheet) (cells : ℕ) (q : Query) where
     in-nodes i i< self w =
         in-third Q (geometries w) texts nodes references (each-halts Q _ geometry-halts (c .geometries .count) 0 w) (each-halts Q _ text-halts (c .texts .count) 0)
         (each-covers Q (nodeStep enter note S cells q t n c p box) (c .nodes .count) i i< node-keeps (λ b _ w. node-halts b w)
-        (λ w. cond-case EndsWell (detailBudgetExhausted q (w .state)) _ _ (λ _. full w) (λ _. cell-claims (pushNode enter note S q (nodeAt i ∷ t) (c .nodes .at i) p w) (self w))) (c .nodes .count) 0 (omega arith) (omega arith))
+        (λ w. cond-case EndsWell (detailBudgetExhausted q (w .state)) _ _ (λ _. full _ w) (λ _. cell-claims (pushNode enter note S q (nodeAt i ∷ t) (c .nodes .at i) p w) (self w))) (c .nodes .count) 0 (omega arith) (omega arith))
         references-keep
 
     pub in-references : (i : ℕ) → i < c .references .count → ((w : World Tagged) → Q (visits d (referenceAt i ∷ t) (c .references .at i) p w)) → (w : World Tagged) → Q (ending (cellBody enter note S cells q t n c p box (visits d) w))
@@ -131,7 +132,7 @@ module _ (S : Sheet) (cells : ℕ) (q : Query) where
     in-references i i< self w =
         in-fourth Q (geometries w) texts nodes references (each-halts Q _ geometry-halts (c .geometries .count) 0 w) (each-halts Q _ text-halts (c .texts .count) 0) (each-halts Q _ node-halts (c .nodes .count) 0)
         (each-covers Q (referenceStep enter note S cells q t n c p box (visits d)) (c .references .count) i i< reference-keeps (λ b _ w. reference-halts b w)
-        (λ w. cond-case EndsWell (detailBudgetExhausted q (w .state)) _ _ (λ _. full w) (λ _. self w)) (c .references .count) 0 (omega arith) (omega arith))
+        (λ w. cond-case EndsWell (detailBudgetExhausted q (w .state)) _ _ (λ _. full _ w) (λ _. self w)) (c .references .count) 0 (omega arith) (omega arith))
 
   -- ---- the cell's own box holds what any path leads to from it
 
@@ -144,10 +145,10 @@ module _ (S : Sheet) (cells : ℕ) (q : Query) where
     box-is : IsBox (transformBbox p b) (place T (boxOf b))
     box-is = placed-box l l≤ p T i level b (bounds-square (c .bbox) b eb (sq .cell-box n c e))
 
-    pub full-cell : (w : World Tagged) → Claimed g h (addLoadIfBoxed enter note t n (transformBounds p (c .bbox)) w)
-    full-cell = load-if-boxed-claims g h t n (transformBounds p (c .bbox)) (transformBbox p b) (place T (boxOf b)) box-there box-is inside
+    pub full-cell : (y : Reason) (w : World Tagged) → Claimed g h (addLoadIfBoxed enter note t y n (transformBounds p (c .bbox)) w)
+    full-cell y = load-if-boxed-claims g h t y n (transformBounds p (c .bbox)) (transformBbox p b) (place T (boxOf b)) box-there box-is inside
 
-    outside : Yes (isOutside q (boxed (transformBbox p b))) → ⊥
+    outside : Yes (isOutside (boxed (transformBbox p b)) (q .view)) → ⊥
     unfolding boxed
     outside y = not-culled (q .view) whole (transformBbox p b) (place T (boxOf b)) box-is (view-touches (q .view) h (place T (boxOf b)) v inside) y
 
@@ -156,9 +157,9 @@ module _ (S : Sheet) (cells : ℕ) (q : Query) where
     unfolding visitFoundCell
     cell-visit-claims body w =
         subst (λ (o : Option CellRecord). Claimed g h (visitFoundCell enter note S cells q (visits d) t n p o w)) (sym e)
-        (cond-case (Claimed g h) (isOutside q (transformBounds p (c .bbox))) _ _
-        (λ y. absurd (outside (subst (λ (u : Bounds). Yes (isOutside q u)) box-there y)))
-        (λ _. cond-case (Claimed g h) (detailCellsFull (w .state)) _ _ (λ _. full-cell w)
-        (λ _. cond-case (Claimed g h) (detailBudgetExhausted q (w .state)) _ _ (λ _. full-cell w)
-        (λ _. cond-case (Claimed g h) (isMarked (w .marks) (openPlace cells n)) _ _ (λ _. full-cell w)
+        (cond-case (Claimed g h) (isOutside (transformBounds p (c .bbox)) (q .view)) _ _
+        (λ y. absurd (outside (subst (λ (u : Bounds). Yes (isOutside u (q .view))) box-there y)))
+        (λ _. cond-case (Claimed g h) (detailCellsFull (w .state)) _ _ (λ _. full-cell _ w)
+        (λ _. cond-case (Claimed g h) (detailBudgetExhausted q (w .state)) _ _ (λ _. full-cell _ w)
+        (λ _. cond-case (Claimed g h) (isMarked (w .marks) (openPlace cells n)) _ _ (λ _. full-cell _ w)
         (λ _. body (say enter note t detailCell (setMark (openPlace cells n) 1 w)))))))

@@ -14,6 +14,7 @@ use Rattle.exact.proofs.Boxes.Relations.{holds-touches, encloses-touches}
 use Rattle.exact.proofs.Boxes.Tests.{overlaps-exact}
 use Rattle.plan_rules.specs.declared.ScenePlan.{ScenePlan}
 use Rattle.plan_rules.specs.Limits.{maxLoadProxies}
+use Rattle.plan_rules.specs.declared.Reason.{Reason}
 use Rattle.plan_rules.specs.Event.{Event, proxy, droppedProxy, nodeGridLimit, Step, member, after}
 use Rattle.plan_rules.specs.World.{World}
 use Rattle.plan_rules.specs.Push.{say, addLoad, addLoadIfBoxed}
@@ -48,8 +49,8 @@ not-culled view whole b z i t y = not-not (overlaps b view) (overlaps-exact b vi
 
 pub data Claims (p : Path) (h : Item) : List Step → Event → Type 0 where
   by-record : {t : List Step} {e : Event} → back t [] ≡ p → Lists h e → Claims p h t e
-  by-proxy : {t : List Step} {l : ℕ} {b : WorldBBox} {z : IntegerBox} → IsBox b z → WithinBox h z → Claims p h t (proxy l b)
-  by-dropped : {t : List Step} {l : ℕ} {b : WorldBBox} {z : IntegerBox} → IsBox b z → WithinBox h z → Claims p h t (droppedProxy l b)
+  by-proxy : {t : List Step} {y : Reason} {l : ℕ} {b : WorldBBox} {z : IntegerBox} → IsBox b z → WithinBox h z → Claims p h t (proxy y l b)
+  by-dropped : {t : List Step} {y : Reason} {l : ℕ} {b : WorldBBox} {z : IntegerBox} → IsBox b z → WithinBox h z → Claims p h t (droppedProxy y l b)
   by-skip : {t : List Step} {e : Event} (r : Path) → back t r ≡ p → IsSkip e → Claims p h t e
   by-limit : {t : List Step} {a b : ℕ} (x y : ℕ) (r : Path) → back t (member x y ∷ r) ≡ p → Later a b x y → Claims p h (member a b ∷ t) nodeGridLimit
 
@@ -70,11 +71,11 @@ module _ (p : Path) (h : Item) where
   unfolding say
   say-claims t e c w = here c
 
-  pub load-claims : (t : List Step) (l : ℕ) (b : WorldBBox) (z : IntegerBox) → IsBox b z → WithinBox h z → (w : World Tagged) → Claimed p h (addLoad enter note t l b w)
+  pub load-claims : (t : List Step) (y : Reason) (l : ℕ) (b : WorldBBox) (z : IntegerBox) → IsBox b z → WithinBox h z → (w : World Tagged) → Claimed p h (addLoad enter note t y l b w)
   unfolding addLoad
-  load-claims t l b z i k w =
-      cond-case (Claimed p h) (ltb (w .state .«load_proxies») maxLoadProxies) _ _ (λ _. say-claims t (proxy l b) (by-proxy i k) w) (λ _. say-claims t (droppedProxy l b) (by-dropped i k) w)
+  load-claims t y l b z i k w =
+      cond-case (Claimed p h) (ltb (w .state .«load_proxies») maxLoadProxies) _ _ (λ _. say-claims t (proxy y l b) (by-proxy i k) w) (λ _. say-claims t (droppedProxy y l b) (by-dropped i k) w)
 
-  pub load-if-boxed-claims : (t : List Step) (l : ℕ) (o : Bounds) (b : WorldBBox) (z : IntegerBox) → o ≡ boxed b → IsBox b z → WithinBox h z → (w : World Tagged) → Claimed p h (addLoadIfBoxed enter note t l o w)
+  pub load-if-boxed-claims : (t : List Step) (y : Reason) (l : ℕ) (o : Bounds) (b : WorldBBox) (z : IntegerBox) → o ≡ boxed b → IsBox b z → WithinBox h z → (w : World Tagged) → Claimed p h (addLoadIfBoxed enter note t y l o w)
   unfolding boxed
-  load-if-boxed-claims t l o b z e i k w = subst (λ (u : Bounds). Claimed p h (addLoadIfBoxed enter note t l u w)) (sym e) (load-claims t l b z i k w)
+  load-if-boxed-claims t y l o b z e i k w = subst (λ (u : Bounds). Claimed p h (addLoadIfBoxed enter note t y l u w)) (sym e) (load-claims t y l b z i k w)

@@ -15,6 +15,7 @@ use Rattle.records.specs.declared.PreparedSource.the-variants.{Geometry, Text, 
 use Rattle.records.specs.declared.PreparedGeometry.{PreparedGeometry}
 use Rattle.records.specs.declared.PreparedText.{PreparedText}
 use Rattle.records.specs.declared.PreparedReference.{PreparedReference}
+use Rattle.records.specs.Sources.{noLabel}
 use Rattle.abstract_sheet.specs.Sheet.{NodeRecord, Sheet}
 use Rattle.exact.specs.Placement.{ExactPlacement, IsPlacement, AtLevel, deepestLevel}
 use Rattle.exact.specs.Box.{boxOf}
@@ -22,11 +23,11 @@ use Rattle.exact.proofs.Boxes.Relations.{encloses-self}
 use Rattle.exact.proofs.Boxes.Tests.{point-in-bbox-exact}
 use Rattle.plan_rules.specs.Event.{batch, text, point, skippedBatch, Step, member, pointAt}
 use Rattle.plan_rules.specs.World.{Query, hides, detailBudgetExhausted, World}
-use Rattle.plan_rules.specs.Push.{noLabel, pushFoundGeometry, pushGeometry, pushFoundText, pushText, pushPoint, pushFoundNode, pushNode}
+use Rattle.plan_rules.specs.Push.{pushFoundGeometry, pushGeometry, pushFoundText, pushText, pushPoint, pushFoundNode, pushNode}
 use Rattle.plan_rules.specs.Tape.{note}
 use Rattle.plan_rules.proofs.Invariant.{point-kept}
+use Rattle.paths.specs.Square.{Square}
 use Rattle.cover.specs.Path.{Path, Item, aBatch, aText, aPoint, memberAt, StepLeads, to-batch, to-text, to-node, to-reference, through-member, Leads, at-batch, at-text, at-point, step}
-use Rattle.cover.specs.Square.{Square}
 use Rattle.cover.specs.View.{placedBatch, textPosition, pointPosition, WholeView, InView, Shown}
 use Rattle.cover.specs.Trace.{enter}
 use Rattle.cover.specs.Covered.{lists-batch, lists-text, lists-point, batch-skip}
@@ -83,9 +84,9 @@ module _ (S : Sheet) (cells : ℕ) (q : Query) (whole : WholeView (q .view)) (sq
         (λ _. cond-case (Claimed g h) (isSubpixel size) _ _
         (λ y. say-claims g h t (skippedBatch box) (by-skip [] refl batch-skip) w)
         (λ _. cond-case (Claimed g h) (isDenseBatch size (b .«element_count»)) _ _
-        (λ _. load-claims g h t noLabel box z is (encloses-self z) w)
+        (λ _. load-claims g h t _ noLabel box z is (encloses-self z) w)
         (λ _. cond-case (Claimed g h) (detailBudgetExhausted q (w .state)) _ _
-        (λ _. load-claims g h t noLabel box z is (encloses-self z) w)
+        (λ _. load-claims g h t _ noLabel box z is (encloses-self z) w)
         (λ _. say-claims g h t (batch n p) (by-record refl (lists-batch i)) w))))))
 
     text-claims : (t : List Step) (n : ℕ) (x : PreparedText) → S .text n ≡ some x → InView (q .view) (aText n x T) → Shown (q .hidden) (aText n x T)

@@ -14,28 +14,31 @@ use Rattle.geometry.specs.declared.bbox.Bounds.{Bounds}
 use Rattle.geometry.specs.Placement.{_·_}
 use Rattle.geometry.specs.Bbox.{boxed, transformBbox, overlaps, sourceIsDegenerate}
 use Rattle.geometry.specs.Grid.{gridCount, gridMemberTransform, cornersBbox}
-use Rattle.geometry.specs.Screen.{referenceScreenSize, isSubpixel, shouldCollapseReference}
+use Rattle.geometry.specs.Screen.{referenceScreenSize, isSubpixel, collapseTest, collapses}
 use Rattle.records.specs.declared.PreparedReference.{PreparedReference}
+use Rattle.records.specs.Sources.{label}
 use Rattle.abstract_sheet.specs.Sheet.{Sheet}
 use Rattle.exact.specs.Placement.{ExactPlacement, IsPlacement, AtLevel, deepestLevel}
 use Rattle.exact.specs.Member.{gridOf}
 use Rattle.exact.specs.Box.{IntegerBox, IsBox, boxOf, place, referenceBox}
 use Rattle.exact.proofs.Boxes.ReferenceRounded.{reference-bbox-present}
+use Rattle.plan_rules.specs.declared.Reason.{Reason}
+use Rattle.plan_rules.specs.declared.Reason.the-variants as reason
 use Rattle.plan_rules.specs.Event.{skippedMember, nodeGridLimit, Step, member}
 use Rattle.plan_rules.specs.World.{Query, detailCellsFull, detailBudgetExhausted, World, Flow, go, halt, ending, each}
 use Rattle.plan_rules.specs.DrawUnits.{referenceDrawUnits}
 use Rattle.plan_rules.specs.Push.{say, addLoad}
-use Rattle.plan_rules.specs.Visit.{label, sourceUnits, haltWithMember, withScratch, VisitSource, memberStep, columnStep, visitCountedReference, visitBoxedReference, visitSourcedReference, visitFoundReference}
+use Rattle.plan_rules.specs.Visit.{sourceUnits, haltWithMember, withScratch, VisitSource, memberStep, columnStep, visitCountedReference, visitBoxedReference, visitSourcedReference, visitFoundReference}
 use Rattle.plan_rules.specs.Tape.{note}
+use Rattle.paths.specs.Square.{Square, FewMembers, SquareBox}
+use Rattle.paths.specs.TrueBoxes.{TrueBoxes}
+use Rattle.paths.proofs.Square.{bounds-square, reference-grid}
 use Rattle.cover.specs.Path.{Path, Item, memberAt}
-use Rattle.cover.specs.Square.{Square, FewMembers, SquareBox}
-use Rattle.cover.specs.TrueBoxes.{TrueBoxes}
 use Rattle.cover.specs.View.{WithinBox, WholeView, InView}
 use Rattle.cover.specs.Trace.{enter, before}
 use Rattle.cover.specs.Covered.{Later, member-skip}
 use Rattle.cover.proofs.Tests.{cond-case, collapses-at-depth-1}
 use Rattle.cover.proofs.TagPaths.{Tagged, back}
-use Rattle.cover.proofs.Reading.{bounds-square}
 use Rattle.cover.proofs.Exactness.{placed-box, member-placed, corners-placed}
 use Rattle.cover.proofs.Enclosure.{within-larger, member-in-reference-box}
 use Rattle.cover.proofs.Loops.{OnGo, OnHalt, Keeps, each-halts, each-covers}
@@ -60,31 +63,31 @@ module _ (S : Sheet) (cells : ℕ) (q : Query) (whole : WholeView (q .view)) (fe
   exactWorldBox = place T (referenceBox (gridOf (r .grid)) (r .grid .columns) (r .grid .rows) (boxOf sb))
 
   world-box-is : IsBox worldBox exactWorldBox
-  world-box-is = corners-placed l l≤ p T i level (r .grid) (few n r e) (sq .grid n r e) sb square-source
+  world-box-is = corners-placed l l≤ p T i level (r .grid) (reference-grid S few sq n r e) sb square-source
 
   inside-world-box : WithinBox h exactWorldBox
   inside-world-box = within-larger h (place (memberAt T r x y) (boxOf sb)) exactWorldBox (member-in-reference-box S few sq true-boxes n r sb x y T e eb x< y<) inside
 
-  full-reference : (w : World Tagged) → Claimed g h (addLoad enter note t (label (r .source)) worldBox w)
-  full-reference = load-claims g h t (label (r .source)) worldBox exactWorldBox world-box-is inside-world-box
+  full-reference : (y : Reason) (w : World Tagged) → Claimed g h (addLoad enter note t y (label (r .source)) worldBox w)
+  full-reference y = load-claims g h t y (label (r .source)) worldBox exactWorldBox world-box-is inside-world-box
 
   -- ---- up to the members
 
   pub reference-claims : (visit : VisitSource enter note S cells q)
       → (1 < d → (u : ℕ) (w : World Tagged) → Claimed g h (ending (each (columnStep enter note S cells q visit d t r p sb worldBox u) (r .grid .columns) 0 w)))
-      → (w : World Tagged) → Claimed g h (visitFoundReference enter note S cells q visit d t n p (S .reference n) w)
+      → (w : World Tagged) → Claimed g h (visitFoundReference enter note S cells q visit d t p (S .reference n) w)
   unfolding visitFoundReference visitSourcedReference visitBoxedReference visitCountedReference boxed
   reference-claims visit loop w =
-      let u = referenceDrawUnits S cells d n (w .counts) (w .marks) in
+      let u = referenceDrawUnits S cells d r (w .counts) (w .marks) in
       let z = referenceScreenSize worldBox (q .zoom) (sourceIsDegenerate sb) in
-      subst (λ (o : Option PreparedReference). Claimed g h (visitFoundReference enter note S cells q visit d t n p o w)) (sym e)
-      (subst (λ (o : Bounds). Claimed g h (visitSourcedReference enter note S cells q visit d t n r p o w)) (sym eb)
-      (subst (λ (o : Bounds). Claimed g h (visitBoxedReference enter note S cells q visit d t n r p sb o w)) (sym (reference-bbox-present (r .grid) sb (omega arith) (omega arith)))
+      subst (λ (o : Option PreparedReference). Claimed g h (visitFoundReference enter note S cells q visit d t p o w)) (sym e)
+      (subst (λ (o : Bounds). Claimed g h (visitSourcedReference enter note S cells q visit d t r p o w)) (sym eb)
+      (subst (λ (o : Bounds). Claimed g h (visitBoxedReference enter note S cells q visit d t r p sb o w)) (sym (reference-bbox-present (r .grid) sb (omega arith) (omega arith)))
       (cond-case (Claimed g h) (not (overlaps worldBox (q .view))) _ _
       (λ k. absurd (not-culled (q .view) whole worldBox exactWorldBox world-box-is (view-touches (q .view) h exactWorldBox v inside-world-box) k))
-      (λ _. cond-case (Claimed g h) (detailCellsFull (w .state)) _ _ (λ _. full-reference w)
-      (λ _. cond-case (Claimed g h) (detailBudgetExhausted q (w .state)) _ _ (λ _. full-reference w)
-      (λ _. cond-case (Claimed g h) (shouldCollapseReference (z .width) (z .height) (gridCount (r .grid)) (u .units) d false) _ _ (λ _. full-reference (withScratch enter note u w))
+      (λ _. cond-case (Claimed g h) (detailCellsFull (w .state)) _ _ (λ _. full-reference _ w)
+      (λ _. cond-case (Claimed g h) (detailBudgetExhausted q (w .state)) _ _ (λ _. full-reference _ w)
+      (λ _. cond-case (Claimed g h) (collapses (collapseTest (z .width) (z .height) (gridCount (r .grid)) (u .units) d false)) _ _ (λ _. full-reference _ (withScratch enter note u w))
       (λ k. loop (collapses-at-depth-1 (z .width) (z .height) (gridCount (r .grid)) (u .units) d k) (sourceUnits (u .units) (gridCount (r .grid))) (withScratch enter note u w))))))))
 
   -- ---- the member itself
@@ -98,7 +101,7 @@ module _ (S : Sheet) (cells : ℕ) (q : Query) (whole : WholeView (q .view)) (fe
 
     member-box-is : IsBox memberBox (place (memberAt T r x y) (boxOf sb))
     member-box-is =
-        let m = member-placed l l≤ p T i level (r .grid) (few n r e) (sq .grid n r e) x y x< y< in
+        let m = member-placed l l≤ p T i level (r .grid) (reference-grid S few sq n r e) x y x< y< in
         placed-box (suc l) next placement (memberAt T r x y) (m .0) (m .1) sb square-source
 
     abbrev EndsWell : Flow Tagged → Type 0
@@ -107,7 +110,7 @@ module _ (S : Sheet) (cells : ℕ) (q : Query) (whole : WholeView (q .view)) (fe
     limit-claims : (k : ℕ) (f : Flow Tagged) → OnGo (Claimed g h) f → EndsWell (haltWithMember enter note (member x y ∷ t) k memberBox f)
     unfolding say
     limit-claims k (go w) o = o
-    limit-claims k (halt w) o = before (load-claims g h (member x y ∷ t) k memberBox (place (memberAt T r x y) (boxOf sb)) member-box-is inside w)
+    limit-claims k (halt w) o = before (load-claims g h (member x y ∷ t) reason.OtherLimit k memberBox (place (memberAt T r x y) (boxOf sb)) member-box-is inside w)
 
     member-claims : ((w : World Tagged) → OnGo (Claimed g h) (visit (member x y ∷ t) (r .source) placement w)) → (u : ℕ) (w : World Tagged) → EndsWell (memberStep enter note S cells q visit d t r p sb worldBox u x y w)
     unfolding memberStep
@@ -115,20 +118,20 @@ module _ (S : Sheet) (cells : ℕ) (q : Query) (whole : WholeView (q .view)) (fe
         let z = place (memberAt T r x y) (boxOf sb) in
         let size = referenceScreenSize memberBox (q .zoom) (sourceIsDegenerate sb) in
         let stands = member x y ∷ t in
-        cond-case EndsWell (detailBudgetExhausted q (w .state)) _ _ (λ _. full-reference w)
+        cond-case EndsWell (detailBudgetExhausted q (w .state)) _ _ (λ _. full-reference _ w)
         (λ _. cond-case EndsWell (not (overlaps memberBox (q .view))) _ _
         (λ k. absurd (not-culled (q .view) whole memberBox z member-box-is (view-touches (q .view) h z v inside) k))
         (λ _. cond-case EndsWell (isSubpixel size) _ _
         (λ k. say-claims g h stands (skippedMember (sourceIsDegenerate sb) memberBox) (by-skip rest refl member-skip) w)
-        (λ _. cond-case EndsWell (shouldCollapseReference (size .width) (size .height) 1 u d false) _ _
-        (λ _. load-claims g h stands (label (r .source)) memberBox z member-box-is inside w)
+        (λ _. cond-case EndsWell (collapses (collapseTest (size .width) (size .height) 1 u d false)) _ _
+        (λ _. load-claims g h stands _ (label (r .source)) memberBox z member-box-is inside w)
         (λ _. limit-claims (label (r .source)) (visit stands (r .source) placement w) (sub w)))))
 
     -- ---- an earlier member that halts
 
     limit-halts : (a b : ℕ) → Later a b x y → (k : ℕ) (o : WorldBBox) (f : Flow Tagged) → OnHalt (Claimed g h) (haltWithMember enter note (member a b ∷ t) k o f)
     limit-halts a b late k o (go w) = tt
-    limit-halts a b late k o (halt w) = say-claims g h (member a b ∷ t) nodeGridLimit (by-limit x y rest refl late) (addLoad enter note (member a b ∷ t) k o w)
+    limit-halts a b late k o (halt w) = say-claims g h (member a b ∷ t) nodeGridLimit (by-limit x y rest refl late) (addLoad enter note (member a b ∷ t) reason.OtherLimit k o w)
 
     member-halts : (u a b : ℕ) → Later a b x y → (w : World Tagged) → OnHalt (Claimed g h) (memberStep enter note S cells q visit d t r p sb worldBox u a b w)
     unfolding memberStep
@@ -136,10 +139,10 @@ module _ (S : Sheet) (cells : ℕ) (q : Query) (whole : WholeView (q .view)) (fe
         let m = p · gridMemberTransform (r .grid) a b in
         let box = transformBbox m sb in
         let size = referenceScreenSize box (q .zoom) (sourceIsDegenerate sb) in
-        cond-case (OnHalt (Claimed g h)) (detailBudgetExhausted q (w .state)) _ _ (λ _. full-reference w)
+        cond-case (OnHalt (Claimed g h)) (detailBudgetExhausted q (w .state)) _ _ (λ _. full-reference _ w)
         (λ _. cond-case (OnHalt (Claimed g h)) (not (overlaps box (q .view))) _ _ (λ _. tt)
         (λ _. cond-case (OnHalt (Claimed g h)) (isSubpixel size) _ _ (λ _. tt)
-        (λ _. cond-case (OnHalt (Claimed g h)) (shouldCollapseReference (size .width) (size .height) 1 u d false) _ _ (λ _. tt)
+        (λ _. cond-case (OnHalt (Claimed g h)) (collapses (collapseTest (size .width) (size .height) 1 u d false)) _ _ (λ _. tt)
         (λ _. limit-halts a b late (label (r .source)) box (visit (member a b ∷ t) (r .source) m w)))))
 
     -- ---- the columns, and the rows of the member's own column

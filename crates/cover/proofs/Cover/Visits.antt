@@ -3,13 +3,13 @@
 use mathlib.Core.Path.{_≡_, sym, ap, _∙_, subst}
 use mathlib.Core.List.{List, [], _∷_}
 use mathlib.Core.Option.{Option, some}
-use Prim.Native.Nat.{ℕ, zero, suc, _+_, _≤_, _<_}
+use Prim.Native.Nat.{ℕ, zero, suc, _+_, _≤_}
 use native.Mathlib.Omega.{arith}
 use Rattle.geometry.specs.declared.placement.Placement.{Placement}
 use Rattle.geometry.specs.declared.bbox.WorldBBox.{WorldBBox}
 use Rattle.geometry.specs.declared.bbox.Bounds.{Bounds}
 use Rattle.geometry.specs.Placement.{IDENTITY, _·_}
-use Rattle.geometry.specs.Bbox.{boxed, transformBbox, overlaps}
+use Rattle.geometry.specs.Bbox.{boxed, transformBbox, overlaps, transformBounds}
 use Rattle.geometry.specs.Grid.{gridMemberTransform, cornersBbox}
 use Rattle.records.specs.declared.PreparedSource.{PreparedSource}
 use Rattle.records.specs.declared.PreparedSource.the-variants.{Geometry, Text, Node, Reference, Cell}
@@ -18,21 +18,22 @@ use Rattle.exact.specs.Placement.{ExactPlacement, identity, IsPlacement, AtLeve
 use Rattle.exact.specs.Box.{IntegerBox, Inside, boxOf, place}
 use Rattle.exact.proofs.Placements.Levels.{identity-level}
 use Rattle.exact.proofs.Placements.Moving.{identity-exact}
+use Rattle.plan_rules.specs.declared.Reason.{Reason}
 use Rattle.plan_rules.specs.Event.{Step, batchAt, textAt, nodeAt, referenceAt, member}
 use Rattle.plan_rules.specs.World.{Query, World, go, ending}
 use Rattle.plan_rules.specs.Push.{say, addLoadIfBoxed}
-use Rattle.plan_rules.specs.Visit.{transformBounds, VisitSource, cellBody, visitFoundCell, visitSourceWith, visitFoundReference, visitReference, visitCell}
+use Rattle.plan_rules.specs.Visit.{VisitSource, cellBody, visitFoundCell, visitSourceWith, visitFoundReference, visitReference, visitCell}
 use Rattle.plan_rules.specs.Plan.{loadRootBox, loadRoot, visitRoot, plan}
 use Rattle.plan_rules.specs.Tape.{note}
 use Rattle.plan_rules.proofs.Invariant.{member-kept, column-kept}
+use Rattle.paths.specs.Square.{Square, FewMembers}
+use Rattle.paths.specs.TrueBoxes.{TrueBoxes}
+use Rattle.paths.proofs.Square.{box-is, bounds-square, reference-grid}
 use Rattle.cover.specs.Path.{Path, Item, memberAt, StepLeads, to-batch, to-text, to-node, to-reference, Leads, step, LeadsTo}
-use Rattle.cover.specs.Square.{Square, FewMembers}
-use Rattle.cover.specs.TrueBoxes.{TrueBoxes}
 use Rattle.cover.specs.View.{WithinBox, WholeView, InView, Shown}
 use Rattle.cover.specs.Trace.{enter, before}
 use Rattle.cover.proofs.Tests.{cond-case}
 use Rattle.cover.proofs.TagPaths.{Tagged, back}
-use Rattle.cover.proofs.Reading.{box-is, bounds-square}
 use Rattle.cover.proofs.Exactness.{member-placed}
 use Rattle.cover.proofs.Enclosure.{within-larger, in-source-box, enclosed}
 use Rattle.cover.proofs.Loops.{OnGo}
@@ -65,7 +66,7 @@ module _ (S : Sheet) (cells : ℕ) (q : Query) (whole : WholeView (q .view)) (fe
 
     -- the cell's loops claim a path, given that the cell's box does
     in-cell : (c′ : CellRecord) → S .cell n ≡ some c′ → (G : Path)
-        → (((w : World Tagged) → Claimed G h (addLoadIfBoxed enter note t n (transformBounds p (c′ .bbox)) w)) → (w : World Tagged) → Claimed G h (ending (cellBody enter note S cells q t n c′ p (transformBounds p (c′ .bbox)) (visits S cells q d) w)))
+        → (((y : Reason) (w : World Tagged) → Claimed G h (addLoadIfBoxed enter note t y n (transformBounds p (c′ .bbox)) w)) → (w : World Tagged) → Claimed G h (ending (cellBody enter note S cells q t n c′ p (transformBounds p (c′ .bbox)) (visits S cells q d) w)))
         → (w : World Tagged) → Visited G w
     in-cell c′ e G loops =
         let box = same-box c′ e in
@@ -108,7 +109,7 @@ module _ (S : Sheet) (cells : ℕ) (q : Query) (whole : WholeView (q .view)) (fe
       let k = ends S leads in
       let r = k .0 in
       let o = in-source-box S few sq true-boxes n r (k .4) (memberAt T r (k .1) (k .2)) h (enclosed S few sq true-boxes (k .8) (view-has-elements (q .view) h v)) in
-      subst (λ (z : Path). Claimed (back t z) h (visitFoundReference enter note S cells q (λ t s p w. go w) 0 t n p (S .reference n) w)) (sym (k .7))
+      subst (λ (z : Path). Claimed (back t z) h (visitFoundReference enter note S cells q (λ t s p w. go w) 0 t p (S .reference n) w)) (sym (k .7))
       (reference-claims S cells q whole few sq true-boxes 0 l (omega arith) t n r (k .4) p T i level (k .1) (k .2) (k .5) (k .6) (k .3) h v (o .0) (o .1) (o .2) (λ t s p w. go w) (λ z. absurd (let y : ⊥ = omega arith in y)) w)
   reference-visit-claims (suc d) l b t n p T i level g h leads v shown w =
       let k = ends S leads in
@@ -121,9 +122,9 @@ module _ (S : Sheet) (cells : ℕ) (q : Query) (whole : WholeView (q .view)) (fe
       let sb = o .0 in
       let visit : VisitSource enter note S cells q = visitSourceWith enter note S cells q (visits S cells q d) in
       let G = back t (member x y ∷ rest) in
-      let m = member-placed l (omega arith) p T i level (r .grid) (few n r (k .4)) (sq .grid n r (k .4)) x y (k .5) (k .6) in
+      let m = member-placed l (omega arith) p T i level (r .grid) (reference-grid S few sq n r (k .4)) x y (k .5) (k .6) in
       let worldBox = transformBbox p (cornersBbox (r .grid) sb) in
-      subst (λ (z : Path). Claimed (back t z) h (visitFoundReference enter note S cells q visit (suc d) t n p (S .reference n) w)) (sym (k .7))
+      subst (λ (z : Path). Claimed (back t z) h (visitFoundReference enter note S cells q visit (suc d) t p (S .reference n) w)) (sym (k .7))
       (reference-claims S cells q whole few sq true-boxes (suc d) l (omega arith) t n r (k .4) p T i level x y (k .5) (k .6) rest h v sb (o .1) (o .2) visit
       (λ _. columns-claim S cells q whole few sq true-boxes (suc d) l (omega arith) t n r (k .4) p T i level x y (k .5) (k .6) rest h v sb (o .1) (o .2) (omega arith) visit
       (source-claims d (suc l) (omega arith) (reference-visit-claims d (suc l) (omega arith)) (member x y ∷ t) (r .source) (p · gridMemberTransform (r .grid) x y) M (m .0) (m .1) rest h (k .8) v shown)
@@ -144,7 +145,7 @@ module _ (S : Sheet) (cells : ℕ) (q : Query) (whole : WholeView (q .view)) (fe
       let u = within-larger h (place identity (boxOf b)) (boxOf b) (identity-keeps (boxOf b)) inside in
       subst (λ (o : Option CellRecord). Claimed p h (loadRoot enter note S cells q [] o w)) (sym e)
       (subst (λ (o : Bounds). Claimed p h (loadRootBox enter note S cells q [] o w)) (sym eb)
-      (cond-case (Claimed p h) (overlaps b (q .view)) _ _ (λ _. load-claims p h [] (q .root) b (boxOf b) i u w)
+      (cond-case (Claimed p h) (overlaps b (q .view)) _ _ (λ _. load-claims p h [] _ (q .root) b (boxOf b) i u w)
       (λ y. absurd (not-culled (q .view) whole b (boxOf b) i (view-touches (q .view) h (boxOf b) v u) y))))
 
   root-visit-claims : (d : ℕ) → d ≤ 48 → (p : Path) (h : Item) → LeadsTo S (q .root) p h → InView (q .view) h → Shown (q .hidden) h → (w : World Tagged) → Claimed p h (visitRoot enter note S cells q d [] w)

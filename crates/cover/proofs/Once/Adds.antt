@@ -71,7 +71,7 @@ adds-more K L l l′ f h = record { once = λ o g. h .once o (λ x r k. g x r (f
     by x (inl r) = inl r
     by x (inr k) = inr (f x k)
 
-pub adds-then : (K L M : List Step → Type 0) (l l′ l″ : Tagged) → ((x : List Step) → K x → M x) → ((x : List Step) → L x → M x) → ((x : List Step) → K x → L x → ⊥) → Adds K l l′ → Adds L l′ l″ → Adds M l l″
+adds-then : (K L M : List Step → Type 0) (l l′ l″ : Tagged) → ((x : List Step) → K x → M x) → ((x : List Step) → L x → M x) → ((x : List Step) → K x → L x → ⊥) → Adds K l l′ → Adds L l′ l″ → Adds M l l″
 adds-then K L M l l′ l″ f g apart a b = record { once = λ o m. b .once (a .once o (λ x r k. m x r (f x k))) (λ x r k. fresh o m x k (a .only x r)); only = λ x r. two x (b .only x r) }
   where
     fresh : Once l → ((x : List Step) → Recorded x l → M x → ⊥) → (x : List Step) → L x → Recorded x l ⊎ K x → ⊥

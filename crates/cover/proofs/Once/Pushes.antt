@@ -15,11 +15,13 @@ use Rattle.geometry.specs.Bbox.{bbox, transformBbox, overlaps, pointInBbox}
 use Rattle.geometry.specs.Screen.{screenSize, isSubpixel, isDenseBatch}
 use Rattle.records.specs.declared.PreparedGeometry.{PreparedGeometry}
 use Rattle.records.specs.declared.PreparedText.{PreparedText}
+use Rattle.records.specs.Sources.{noLabel}
 use Rattle.abstract_sheet.specs.Sheet.{NodeRecord, Sheet}
 use Rattle.plan_rules.specs.Limits.{maxLoadProxies}
+use Rattle.plan_rules.specs.declared.Reason.{Reason}
 use Rattle.plan_rules.specs.Event.{batch, text, point, proxy, droppedProxy, skippedBatch, culledBatch, Step, pointAt}
 use Rattle.plan_rules.specs.World.{Query, hides, detailBudgetExhausted, World, Flow, ending}
-use Rattle.plan_rules.specs.Push.{noLabel, say, addLoad, addLoadIfBoxed, pushFoundGeometry, pushFoundText, pushPoint, pushFoundNode}
+use Rattle.plan_rules.specs.Push.{say, addLoad, addLoadIfBoxed, pushFoundGeometry, pushFoundText, pushPoint, pushFoundNode}
 use Rattle.plan_rules.specs.Tape.{note}
 use Rattle.cover.specs.Trace.{enter}
 use Rattle.cover.proofs.Tests.{cond-case}
@@ -27,14 +29,14 @@ use Rattle.cover.proofs.TagPaths.{Tagged}
 use Rattle.cover.proofs.Once.Adds.{Adds, AddsWorld, AddsFlow, adds-nothing, adds-quiet, adds-record, adds-more}
 use Rattle.cover.proofs.Once.Loops.{Under, under-self, From, from-under, steps-add}
 
-pub load-adds : (K : List Step → Type 0) (t : List Step) (l : ℕ) (b : WorldBBox) → AddsWorld K (addLoad enter note t l b)
+pub load-adds : (K : List Step → Type 0) (t : List Step) (y : Reason) (l : ℕ) (b : WorldBBox) → AddsWorld K (addLoad enter note t y l b)
 unfolding addLoad say
-load-adds K t l b w =
-    cond-case (λ (v : World Tagged). Adds K (w .out) (v .out)) (ltb (w .state .«load_proxies») maxLoadProxies) _ _ (λ _. adds-quiet K (w .out) t (proxy l b) refl) (λ _. adds-quiet K (w .out) t (droppedProxy l b) refl)
+load-adds K t y l b w =
+    cond-case (λ (v : World Tagged). Adds K (w .out) (v .out)) (ltb (w .state .«load_proxies») maxLoadProxies) _ _ (λ _. adds-quiet K (w .out) t (proxy y l b) refl) (λ _. adds-quiet K (w .out) t (droppedProxy y l b) refl)
 
-pub load-if-boxed-adds : (K : List Step → Type 0) (t : List Step) (l : ℕ) (o : Bounds) → AddsWorld K (addLoadIfBoxed enter note t l o)
-load-if-boxed-adds K t l Absent w = adds-nothing K (w .out)
-load-if-boxed-adds K t l (Box x₀ y₀ x₁ y₁) w = load-adds K t l (bbox x₀ y₀ x₁ y₁) w
+pub load-if-boxed-adds : (K : List Step → Type 0) (t : List Step) (y : Reason) (l : ℕ) (o : Bounds) → AddsWorld K (addLoadIfBoxed enter note t y l o)
+load-if-boxed-adds K t y l Absent w = adds-nothing K (w .out)
+load-if-boxed-adds K t y l (Box x₀ y₀ x₁ y₁) w = load-adds K t y l (bbox x₀ y₀ x₁ y₁) w
 
 module _ (S : Sheet) (q : Query) where
   pub geometry-adds : (t : List Step) (n : ℕ) (p : Placement) (o : Option PreparedGeometry) → AddsWorld (Under t) (pushFoundGeometry enter note S q t n p o)
@@ -47,8 +49,8 @@ module _ (S : Sheet) (q : Query) where
       cond-case A (hides q (b .layer) (b .«data_type»)) _ _ (λ _. adds-nothing (Under t) (w .out))
       (λ _. cond-case A (not (overlaps box (q .view))) _ _ (λ _. adds-quiet (Under t) (w .out) t culledBatch refl)
       (λ _. cond-case A (isSubpixel size) _ _ (λ _. adds-quiet (Under t) (w .out) t (skippedBatch box) refl)
-      (λ _. cond-case A (isDenseBatch size (b .«element_count»)) _ _ (λ _. load-adds (Under t) t noLabel box w)
-      (λ _. cond-case A (detailBudgetExhausted q (w .state)) _ _ (λ _. load-adds (Under t) t noLabel box w)
+      (λ _. cond-case A (isDenseBatch size (b .«element_count»)) _ _ (λ _. load-adds (Under t) t _ noLabel box w)
+      (λ _. cond-case A (detailBudgetExhausted q (w .state)) _ _ (λ _. load-adds (Under t) t _ noLabel box w)
       (λ _. adds-record (Under t) (w .out) t (batch n p) (under-self t))))))
 
   pub text-adds : (t : List Step) (n : ℕ) (p : Placement) (o : Option PreparedText) → AddsWorld (Under t) (pushFoundText enter note S q t n p o)

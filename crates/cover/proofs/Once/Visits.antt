@@ -11,19 +11,21 @@ use Rattle.geometry.specs.declared.bbox.WorldBBox.{WorldBBox}
 use Rattle.geometry.specs.declared.bbox.Bounds.{Bounds}
 use Rattle.geometry.specs.declared.bbox.Bounds.the-variants.{Absent, Box}
 use Rattle.geometry.specs.Placement.{IDENTITY, _·_}
-use Rattle.geometry.specs.Bbox.{bbox, transformBbox, overlaps, sourceIsDegenerate}
+use Rattle.geometry.specs.Bbox.{bbox, transformBbox, overlaps, sourceIsDegenerate, transformBounds, isOutside}
 use Rattle.geometry.specs.Grid.{gridCount, gridMemberTransform, referenceBbox}
-use Rattle.geometry.specs.Screen.{referenceScreenSize, isSubpixel, shouldCollapseReference}
+use Rattle.geometry.specs.Screen.{referenceScreenSize, isSubpixel, collapseTest, collapses}
 use Rattle.records.specs.declared.PreparedSource.{PreparedSource}
 use Rattle.records.specs.declared.PreparedSource.the-variants.{Geometry, Text, Node, Reference, Cell}
 use Rattle.records.specs.declared.PreparedReference.{PreparedReference}
+use Rattle.records.specs.Sources.{label}
 use Rattle.abstract_sheet.specs.Sheet.{CellRecord, Sheet}
+use Rattle.plan_rules.specs.declared.Reason.the-variants as reason
 use Rattle.plan_rules.specs.Event.{Event, skippedMember, culledReference, nodeGridLimit, detailCell, totals, Step, batchAt, textAt, nodeAt, referenceAt, member, pointAt, emptyPlan}
 use Rattle.plan_rules.specs.World.{Query, detailCellsFull, detailBudgetExhausted, World, world, Flow, go, halt, bind, ending, each, setMark}
 use Rattle.plan_rules.specs.Scratch.{openPlace, isMarked}
 use Rattle.plan_rules.specs.DrawUnits.{Units, referenceDrawUnits}
 use Rattle.plan_rules.specs.Push.{say, addLoad, addLoadIfBoxed, pushGeometry, pushText, pushFoundNode, pushNode}
-use Rattle.plan_rules.specs.Visit.{label, transformBounds, isOutside, sourceUnits, haltWithCell, haltWithMember, withScratch, VisitReference, VisitSource, geometryStep, textStep, nodeStep, referenceStep, cellBody, visitFoundCell, visitSourceWith, memberStep, columnStep, visitCountedReference, visitBoxedReference, visitSourcedReference, visitFoundReference, visitReference, visitCell}
+use Rattle.plan_rules.specs.Visit.{sourceUnits, haltWithCell, haltWithMember, withScratch, VisitReference, VisitSource, geometryStep, textStep, nodeStep, referenceStep, cellBody, visitFoundCell, visitSourceWith, memberStep, columnStep, visitCountedReference, visitBoxedReference, visitSourcedReference, visitFoundReference, visitReference, visitCell}
 use Rattle.plan_rules.specs.Plan.{loadRootBox, loadRoot, visitRoot, plan}
 use Rattle.plan_rules.specs.Tape.{note}
 use Rattle.cover.specs.Path.{Path}
@@ -53,8 +55,8 @@ module _ (S : Sheet) (cells : ℕ) (q : Query) where
   module _ (visit : VisitReference enter note S cells q) (hv : Visits visit) (t : List Step) (n : ℕ) (c : CellRecord) (p : Placement) (box : Bounds) where
     -- at an exhausted budget the cell's box is added, and no record
     step-adds : (k : Step) (w : World Tagged) (f : Flow Tagged) → Adds (Under (k ∷ t)) (w .out) ((ending f) .out)
-        → Adds (Under (k ∷ t)) (w .out) ((ending (cond (detailBudgetExhausted q (w .state)) (halt (addLoadIfBoxed enter note t n box w)) f)) .out)
-    step-adds k w f h = cond-case (λ (f : Flow Tagged). Adds (Under (k ∷ t)) (w .out) ((ending f) .out)) (detailBudgetExhausted q (w .state)) _ _ (λ _. load-if-boxed-adds (Under (k ∷ t)) t n box w) (λ _. h)
+        → Adds (Under (k ∷ t)) (w .out) ((ending (cond (detailBudgetExhausted q (w .state)) (halt (addLoadIfBoxed enter note t reason.OtherLimit n box w)) f)) .out)
+    step-adds k w f h = cond-case (λ (f : Flow Tagged). Adds (Under (k ∷ t)) (w .out) ((ending f) .out)) (detailBudgetExhausted q (w .state)) _ _ (λ _. load-if-boxed-adds (Under (k ∷ t)) t _ n box w) (λ _. h)
 
     geometry-step-adds : (i : ℕ) → AddsFlow (Under (batchAt i ∷ t)) (geometryStep enter note S cells q t n c p box i)
     unfolding geometryStep pushGeometry
@@ -66,7 +68,7 @@ module _ (S : Sheet) (cells : ℕ) (q : Query) where
 
     halt-with-cell-adds : (K : List Step → Type 0) (l : Tagged) (f : Flow Tagged) → Adds K l ((ending f) .out) → Adds K l ((ending (haltWithCell enter note t n box f)) .out)
     halt-with-cell-adds K l (go v) h = h
-    halt-with-cell-adds K l (halt v) h = quiet-after K l (v .out) _ h (load-if-boxed-adds Nowhere t n box v)
+    halt-with-cell-adds K l (halt v) h = quiet-after K l (v .out) _ h (load-if-boxed-adds Nowhere t _ n box v)
 
     node-step-adds : (i : ℕ) → AddsFlow (Under (nodeAt i ∷ t)) (nodeStep enter note S cells q t n c p box i)
     unfolding nodeStep pushNode
@@ -115,10 +117,10 @@ module _ (S : Sheet) (cells : ℕ) (q : Query) where
   cell-adds visit hv t n p (some c) w =
       let box = transformBounds p (c .bbox) in
       let A : World Tagged → Type 0 = λ (v : World Tagged). Adds (Under t) (w .out) (v .out) in
-      cond-case A (isOutside q box) _ _ (λ _. adds-nothing (Under t) (w .out))
-      (λ _. cond-case A (detailCellsFull (w .state)) _ _ (λ _. load-if-boxed-adds (Under t) t n box w)
-      (λ _. cond-case A (detailBudgetExhausted q (w .state)) _ _ (λ _. load-if-boxed-adds (Under t) t n box w)
-      (λ _. cond-case A (isMarked (w .marks) (openPlace cells n)) _ _ (λ _. load-if-boxed-adds (Under t) t n box w)
+      cond-case A (isOutside box (q .view)) _ _ (λ _. adds-nothing (Under t) (w .out))
+      (λ _. cond-case A (detailCellsFull (w .state)) _ _ (λ _. load-if-boxed-adds (Under t) t _ n box w)
+      (λ _. cond-case A (detailBudgetExhausted q (w .state)) _ _ (λ _. load-if-boxed-adds (Under t) t _ n box w)
+      (λ _. cond-case A (isMarked (w .marks) (openPlace cells n)) _ _ (λ _. load-if-boxed-adds (Under t) t _ n box w)
       (λ _. quiet-before (Under t) (w .out) ((t, detailCell) ∷ w .out) _ (adds-quiet Nowhere (w .out) t detailCell refl) (body-adds visit hv t n c p box (say enter note t detailCell (setMark (openPlace cells n) 1 w)))))))
 
   -- ---- a source
@@ -141,7 +143,7 @@ module _ (S : Sheet) (cells : ℕ) (q : Query) where
     unfolding say
     halt-with-member-adds K l k n b (go v) h = h
     halt-with-member-adds K l k n b (halt v) h =
-        quiet-after K l ((addLoad enter note k n b v) .out) _ (quiet-after K l (v .out) _ h (load-adds Nowhere k n b v)) (adds-quiet Nowhere ((addLoad enter note k n b v) .out) k nodeGridLimit refl)
+        quiet-after K l ((addLoad enter note k reason.OtherLimit n b v) .out) _ (quiet-after K l (v .out) _ h (load-adds Nowhere k reason.OtherLimit n b v)) (adds-quiet Nowhere ((addLoad enter note k reason.OtherLimit n b v) .out) k nodeGridLimit refl)
 
     member-adds : (u x y : ℕ) → AddsFlow (Under (member x y ∷ t)) (memberStep enter note S cells q visit d t r p sb wb u x y)
     unfolding memberStep say
@@ -152,10 +154,10 @@ module _ (S : Sheet) (cells : ℕ) (q : Query) where
         let stands = member x y ∷ t in
         let K = Under stands in
         let A : Flow Tagged → Type 0 = λ (f : Flow Tagged). Adds K (w .out) ((ending f) .out) in
-        cond-case A (detailBudgetExhausted q (w .state)) _ _ (λ _. load-adds K t (label (r .source)) wb w)
+        cond-case A (detailBudgetExhausted q (w .state)) _ _ (λ _. load-adds K t _ (label (r .source)) wb w)
         (λ _. cond-case A (not (overlaps box (q .view))) _ _ (λ _. adds-quiet K (w .out) stands culledReference refl)
         (λ _. cond-case A (isSubpixel size) _ _ (λ _. adds-quiet K (w .out) stands (skippedMember (sourceIsDegenerate sb) box) refl)
-        (λ _. cond-case A (shouldCollapseReference (size .width) (size .height) 1 u d false) _ _ (λ _. load-adds K stands (label (r .source)) box w)
+        (λ _. cond-case A (collapses (collapseTest (size .width) (size .height) 1 u d false)) _ _ (λ _. load-adds K stands _ (label (r .source)) box w)
         (λ _. halt-with-member-adds K (w .out) stands (label (r .source)) box (visit stands (r .source) m w) (hv stands (r .source) m w)))))
 
     column-adds : (u x : ℕ) → AddsFlow (From (member x) t 0) (columnStep enter note S cells q visit d t r p sb wb u x)
@@ -166,8 +168,8 @@ module _ (S : Sheet) (cells : ℕ) (q : Query) where
     unfolding visitCountedReference
     counted-adds u w =
         let size = referenceScreenSize wb (q .zoom) (sourceIsDegenerate sb) in
-        cond-case (λ (v : World Tagged). Adds (Under t) (w .out) (v .out)) (shouldCollapseReference (size .width) (size .height) (gridCount (r .grid)) (u .units) d false) _ _
-        (λ _. load-adds (Under t) t (label (r .source)) wb (withScratch enter note u w))
+        cond-case (λ (v : World Tagged). Adds (Under t) (w .out) (v .out)) (collapses (collapseTest (size .width) (size .height) (gridCount (r .grid)) (u .units) d false)) _ _
+        (λ _. load-adds (Under t) t _ (label (r .source)) wb (withScratch enter note u w))
         (λ _. adds-more (λ (x : List Step). (j : ℕ) × (0 ≤ j) × From (member j) t 0 x) (Under t) (w .out) _ (λ x k. from-under (member (k .0)) t 0 x (k .2))
         (each-adds (λ (i : ℕ) (x : List Step). From (member i) t 0 x) (λ i j x l a b. different i j x l a b) (columnStep enter note S cells q visit d t r p sb wb (sourceUnits (u .units) (gridCount (r .grid))))
         (column-adds (sourceUnits (u .units) (gridCount (r .grid)))) (r .grid .columns) 0 (withScratch enter note u w)))
@@ -179,31 +181,31 @@ module _ (S : Sheet) (cells : ℕ) (q : Query) where
             let z : ⊥ = omega arith in
             z
 
-  boxed-adds : (visit : VisitSource enter note S cells q) → Sources visit → (d : ℕ) (t : List Step) (n : ℕ) (r : PreparedReference) (p : Placement) (sb : WorldBBox) (o : Bounds) → AddsWorld (Under t) (visitBoxedReference enter note S cells q visit d t n r p sb o)
+  boxed-adds : (visit : VisitSource enter note S cells q) → Sources visit → (d : ℕ) (t : List Step) (r : PreparedReference) (p : Placement) (sb : WorldBBox) (o : Bounds) → AddsWorld (Under t) (visitBoxedReference enter note S cells q visit d t r p sb o)
   unfolding visitBoxedReference say
-  boxed-adds visit hv d t n r p sb Absent w = adds-nothing (Under t) (w .out)
-  boxed-adds visit hv d t n r p sb (Box x₀ y₀ x₁ y₁) w =
+  boxed-adds visit hv d t r p sb Absent w = adds-nothing (Under t) (w .out)
+  boxed-adds visit hv d t r p sb (Box x₀ y₀ x₁ y₁) w =
       let wb = transformBbox p (bbox x₀ y₀ x₁ y₁) in
       let A : World Tagged → Type 0 = λ (v : World Tagged). Adds (Under t) (w .out) (v .out) in
       cond-case A (not (overlaps wb (q .view))) _ _ (λ _. adds-quiet (Under t) (w .out) t culledReference refl)
-      (λ _. cond-case A (detailCellsFull (w .state)) _ _ (λ _. load-adds (Under t) t (label (r .source)) wb w)
-      (λ _. cond-case A (detailBudgetExhausted q (w .state)) _ _ (λ _. load-adds (Under t) t (label (r .source)) wb w)
-      (λ _. counted-adds visit hv d t r p sb wb (referenceDrawUnits S cells d n (w .counts) (w .marks)) w)))
+      (λ _. cond-case A (detailCellsFull (w .state)) _ _ (λ _. load-adds (Under t) t _ (label (r .source)) wb w)
+      (λ _. cond-case A (detailBudgetExhausted q (w .state)) _ _ (λ _. load-adds (Under t) t _ (label (r .source)) wb w)
+      (λ _. counted-adds visit hv d t r p sb wb (referenceDrawUnits S cells d r (w .counts) (w .marks)) w)))
 
-  sourced-adds : (visit : VisitSource enter note S cells q) → Sources visit → (d : ℕ) (t : List Step) (n : ℕ) (r : PreparedReference) (p : Placement) (o : Bounds) → AddsWorld (Under t) (visitSourcedReference enter note S cells q visit d t n r p o)
+  sourced-adds : (visit : VisitSource enter note S cells q) → Sources visit → (d : ℕ) (t : List Step) (r : PreparedReference) (p : Placement) (o : Bounds) → AddsWorld (Under t) (visitSourcedReference enter note S cells q visit d t r p o)
   unfolding visitSourcedReference
-  sourced-adds visit hv d t n r p Absent w = adds-nothing (Under t) (w .out)
-  sourced-adds visit hv d t n r p (Box x₀ y₀ x₁ y₁) w = boxed-adds visit hv d t n r p (bbox x₀ y₀ x₁ y₁) (referenceBbox (r .grid) (bbox x₀ y₀ x₁ y₁)) w
+  sourced-adds visit hv d t r p Absent w = adds-nothing (Under t) (w .out)
+  sourced-adds visit hv d t r p (Box x₀ y₀ x₁ y₁) w = boxed-adds visit hv d t r p (bbox x₀ y₀ x₁ y₁) (referenceBbox (r .grid) (bbox x₀ y₀ x₁ y₁)) w
 
-  found-adds : (visit : VisitSource enter note S cells q) → Sources visit → (d : ℕ) (t : List Step) (n : ℕ) (p : Placement) (o : Option PreparedReference) → AddsWorld (Under t) (visitFoundReference enter note S cells q visit d t n p o)
+  found-adds : (visit : VisitSource enter note S cells q) → Sources visit → (d : ℕ) (t : List Step) (p : Placement) (o : Option PreparedReference) → AddsWorld (Under t) (visitFoundReference enter note S cells q visit d t p o)
   unfolding visitFoundReference
-  found-adds visit hv d t n p none w = adds-nothing (Under t) (w .out)
-  found-adds visit hv d t n p (some r) w = sourced-adds visit hv d t n r p (r .«source_bbox») w
+  found-adds visit hv d t p none w = adds-nothing (Under t) (w .out)
+  found-adds visit hv d t p (some r) w = sourced-adds visit hv d t r p (r .«source_bbox») w
 
   reference-adds : (d : ℕ) → Visits (visitReference enter note S cells q d)
   unfolding visitReference
-  reference-adds zero t n p w = found-adds (λ t s p w. go w) (λ t s p w. adds-nothing (Under t) (w .out)) 0 t n p (S .reference n) w
-  reference-adds (suc d) t n p w = found-adds (visitSourceWith enter note S cells q (visitReference enter note S cells q d)) (source-adds (visitReference enter note S cells q d) (reference-adds d)) (suc d) t n p (S .reference n) w
+  reference-adds zero t n p w = found-adds (λ t s p w. go w) (λ t s p w. adds-nothing (Under t) (w .out)) 0 t p (S .reference n) w
+  reference-adds (suc d) t n p w = found-adds (visitSourceWith enter note S cells q (visitReference enter note S cells q d)) (source-adds (visitReference enter note S cells q d) (reference-adds d)) (suc d) t p (S .reference n) w
 
   -- ---- the plan
 
@@ -212,7 +214,7 @@ module _ (S : Sheet) (cells : ℕ) (q : Query) where
   root-box-adds t Absent w = adds-nothing (Under t) (w .out)
   root-box-adds t (Box x₀ y₀ x₁ y₁) w =
       let b = bbox x₀ y₀ x₁ y₁ in
-      cond-case (λ (v : World Tagged). Adds (Under t) (w .out) (v .out)) (overlaps b (q .view)) _ _ (λ _. load-adds (Under t) t (q .root) b w) (λ _. adds-nothing (Under t) (w .out))
+      cond-case (λ (v : World Tagged). Adds (Under t) (w .out) (v .out)) (overlaps b (q .view)) _ _ (λ _. load-adds (Under t) t _ (q .root) b w) (λ _. adds-nothing (Under t) (w .out))
 
   load-root-adds : (t : List Step) (o : Option CellRecord) → AddsWorld (Under t) (loadRoot enter note S cells q t o)
   unfolding loadRoot

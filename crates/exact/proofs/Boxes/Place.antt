@@ -1,14 +1,11 @@
 -- The placed box is the least box around a box at its exact placement; placing keeps enclosure, order of the edges and sides.
 -- Assumes nothing.
-use mathlib.Core.Path.{sym, subst}
 use mathlib.Core.Bool.{Bool, true, false, cond}
 use Prim.Native.Nat.{ℕ, _+_}
-use native.Mathlib.Omega.{arith}
-use Rattle.exact.specs.Integer.{Integer, _⊕_, negateIf, _≐_}
-use Rattle.exact.specs.Placement.{Vector, _⊹_, _≐ᵛ_, VectorWithin, orient, ExactPlacement, move, _∘_}
+use Rattle.exact.specs.Placement.{Vector, VectorWithin, ExactPlacement, move, _∘_}
 use Rattle.exact.specs.Box.{IntegerBox, Proper, Holds, Inside, BoxWithin, SidesWithin, swapIf, place, IsPlacedBox}
 use Rattle.exact.proofs.Integers.Bounds.{within-sum}
-use Rattle.exact.proofs.Placements.Orientation.{orient-compose}
+use Rattle.exact.proofs.Placements.Orientation.{move-compose}
 use Rattle.exact.proofs.Boxes.Relations.{holds-same}
 use Rattle.exact.proofs.Boxes.Corners.{lowerLeft, upperRight, lowerLeft-held, upperRight-held}
 use Rattle.exact.proofs.Boxes.Ends.{lower-holds, upper-holds, lower-encloses, upper-encloses, lower-least, upper-least, ends-ordered, ends-apart, lower-within, upper-within}
@@ -119,22 +116,6 @@ module _ (T : ExactPlacement) (b : IntegerBox) where
   }
 
 -- ---- through two placements
-move-compose : (P C : ExactPlacement) (v : Vector) → move P (move C v) ≐ᵛ move (P ∘ C) v
-move-compose P C v =
-    let o = P .orientation in
-    subst (λ (u : Vector). orient o (orient (C .orientation) v ⊹ C .translation) ⊹ P .translation ≐ᵛ u ⊹ (move P (C .translation)))
-    (sym (orient-compose o (C .orientation) v)) (record {
-      x = coordinate (o .negateX) (o .swapped) _ _ _ _ (P .translation .x);
-      y = coordinate (o .negateY) (o .swapped) _ _ _ _ (P .translation .y);
-    })
-  where
-    coordinate : (n s : Bool) (a b c d t : Integer)
-        → negateIf n (cond s (a ⊕ c) (b ⊕ d)) ⊕ t ≐ negateIf n (cond s a b) ⊕ (negateIf n (cond s c d) ⊕ t)
-    coordinate false false a b c d t = omega arith
-    coordinate false true a b c d t = omega arith
-    coordinate true false a b c d t = omega arith
-    coordinate true true a b c d t = omega arith
-
 pub place-compose : (P C : ExactPlacement) (b : IntegerBox) → Proper b → Inside (place (P ∘ C) b) (place P (place C b))
 place-compose P C b h =
     (place-least (P ∘ C) b h) .least (place P (place C b))

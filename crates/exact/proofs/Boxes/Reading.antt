@@ -1,4 +1,4 @@
--- Vectors, boxes and grids of integers, read off floats that are integers. Assumes nothing.
+-- Boxes and grids of integers, read off floats that are integers. Assumes nothing.
 use mathlib.Core.Path.{_≡_, refl, sym, subst}
 use mathlib.Core.Logic.{inl, inr}
 use mathlib.Core.Bool.{Bool, true, false, cond}
@@ -8,31 +8,16 @@ use lib.Dec.{eqb→eq, ltb→lt, lt→ltb, not-T}
 use lib.Ieee.{Float}
 use lib.Ieee.Fits.{eq→eqb}
 use lib.Ieee.Bits.{is-true, is-false}
-use Rattle.geometry.specs.declared.placement.DVec2.{DVec2}
 use Rattle.geometry.specs.declared.bbox.WorldBBox.{WorldBBox}
 use Rattle.geometry.specs.declared.grid.Grid.{Grid}
 use Rattle.exact.specs.Integer.{Integer, integer, _≐_, isEqual, isBelow}
 use Rattle.exact.specs.IsInteger.{IsInteger, integerOf}
-use Rattle.exact.specs.Placement.{Vector, _≐ᵛ_, IsVector, vectorOf}
+use Rattle.exact.specs.Placement.{IsVector, vectorOf}
 use Rattle.exact.specs.Member.{Rotation, degrees0, degrees90, degrees180, degrees270, cosine, sine, GridWithin, IsGrid, rotationOf, gridOf, IsQuarterTurn}
 use Rattle.exact.specs.Box.{IntegerBox, SameBox, IsBox, boxOf}
-use Rattle.exact.proofs.Floats.Reading.{integerOf-is, integerOf-same}
+use Rattle.exact.proofs.Floats.Reading.{integerOf-same}
 
--- ---- vectors and boxes
-pub vectorOf-is : (p : DVec2) (v : Vector) → IsVector p v → IsVector p (vectorOf p)
-vectorOf-is p v h = record { x = integerOf-is (p .x) (v .x) (h .x); y = integerOf-is (p .y) (v .y) (h .y) }
-
-pub vectorOf-same : (p : DVec2) (v : Vector) → IsVector p v → vectorOf p ≐ᵛ v
-vectorOf-same p v h = record { x = integerOf-same (p .x) (v .x) (h .x); y = integerOf-same (p .y) (v .y) (h .y) }
-
-pub boxOf-is : (b : WorldBBox) (z : IntegerBox) → IsBox b z → IsBox b (boxOf b)
-boxOf-is b z h = record {
-  «min_x» = integerOf-is (b .«min_x») (z .«min_x») (h .«min_x»);
-  «min_y» = integerOf-is (b .«min_y») (z .«min_y») (h .«min_y»);
-  «max_x» = integerOf-is (b .«max_x») (z .«max_x») (h .«max_x»);
-  «max_y» = integerOf-is (b .«max_y») (z .«max_y») (h .«max_y»);
-}
-
+-- ---- boxes
 pub boxOf-same : (b : WorldBBox) (z : IntegerBox) → IsBox b z → SameBox (boxOf b) z
 boxOf-same b z h = record {
   «min_x» = integerOf-same (b .«min_x») (z .«min_x») (h .«min_x»);
@@ -74,7 +59,7 @@ module _ (c s : Float) where
       let e = rotation-known (integerOf c) (integerOf s) a (integerOf-same c (cosine a) (h .0)) (integerOf-same s (sine a) (h .1)) in
       subst IsRead (sym e) h
 
-  pub rotationOf-is : IsQuarterTurn c s → IsInteger c (cosine (rotationOf (integerOf c) (integerOf s)))
+  rotationOf-is : IsQuarterTurn c s → IsInteger c (cosine (rotationOf (integerOf c) (integerOf s)))
       × IsInteger s (sine (rotationOf (integerOf c) (integerOf s)))
   rotationOf-is (inl (p, inl q)) = read degrees90 (p, q)
   rotationOf-is (inl (p, inr q)) = read degrees270 (p, q)

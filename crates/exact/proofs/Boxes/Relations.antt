@@ -16,8 +16,8 @@ encloses-trans a b c h k = record { left = omega arith; right = omega arith; bot
 pub encloses-both : (a b : IntegerBox) → Inside a b → Inside b a → SameBox a b
 encloses-both a b h k = record { «min_x» = omega arith; «min_y» = omega arith; «max_x» = omega arith; «max_y» = omega arith }
 
-pub same-encloses : (a b : IntegerBox) → SameBox a b → Inside a b
-same-encloses a b h = record { left = omega arith; right = omega arith; bottom = omega arith; top = omega arith }
+pub same-enclosed : (a b : IntegerBox) → SameBox a b → Inside b a
+same-enclosed a b h = record { left = omega arith; right = omega arith; bottom = omega arith; top = omega arith }
 
 -- ---- holding
 pub encloses-holds : (a b : IntegerBox) (v : Vector) → Inside a b → Holds a v → Holds b v

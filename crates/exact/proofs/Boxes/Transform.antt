@@ -18,7 +18,7 @@ use Rattle.exact.proofs.Boxes.Relations.{encloses-trans, encloses-both,
 use Rattle.exact.proofs.Boxes.Place.{place-holds, corners-enclose}
 use Rattle.exact.proofs.Boxes.Corners.{lowerLeft, lowerRight, upperRight, upperLeft, lowerLeft-held, lowerRight-held, upperRight-held, upperLeft-held}
 
-pub box-same : (b : WorldBBox) (y z : IntegerBox) → SameBox y z → IsBox b y → IsBox b z
+box-same : (b : WorldBBox) (y z : IntegerBox) → SameBox y z → IsBox b y → IsBox b z
 box-same b y z e h = record {
   «min_x» = integer-same (b .«min_x») (y .«min_x») (z .«min_x») (e .«min_x») (h .«min_x»);
   «min_y» = integer-same (b .«min_y») (y .«min_y») (z .«min_y») (e .«min_y») (h .«min_y»);

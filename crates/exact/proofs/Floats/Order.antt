@@ -98,7 +98,7 @@ lt-integer (fin s m e) (fin t n d) i j p q =
     quotient-below s (m * up e * down d) t (n * up d * down e) (down e * down d) i j (downs-pos e d)
     (quotient-widen-right s (m * up e) (down e) (down d) i p) (quotient-widen-left t (n * up d) (down d) (down e) j q)
 
-pub eq-integer : (x y : Float) (i j : Integer) → IsInteger x i → IsInteger y j → eq x y ≡ isEqual i j
+eq-integer : (x y : Float) (i j : Integer) → IsInteger x i → IsInteger y j → eq x y ≡ isEqual i j
 unfolding eq
 eq-integer nan y i j p q = absurd p
 eq-integer (inf s) y i j p q = absurd p
@@ -108,7 +108,7 @@ eq-integer (fin s m e) (fin t n d) i j p q =
     quotient-level s (m * up e * down d) t (n * up d * down e) (down e * down d) i j (downs-pos e d)
     (quotient-widen-right s (m * up e) (down e) (down d) i p) (quotient-widen-left t (n * up d) (down d) (down e) j q)
 
-pub le-integer : (x y : Float) (i j : Integer) → IsInteger x i → IsInteger y j → le x y ≡ isAtMost i j
+le-integer : (x y : Float) (i j : Integer) → IsInteger x i → IsInteger y j → le x y ≡ isAtMost i j
 unfolding le
 le-integer x y i j p q =
     ap (λ (b : Bool). b || eq x y) (lt-integer x y i j p q)

@@ -21,7 +21,7 @@ cross-product a b c d u v w z p q =
     let t : (a + v * c) * (w * d) ≡ u * c * (w * d) = ap (λ (x : ℕ). x * (w * d)) p in
     omega arith
 
-pub quotient-product : (s t : Bool) (a b c d : ℕ) (i j : Integer) → IsQuotient s a c i → IsQuotient t b d j
+quotient-product : (s t : Bool) (a b c d : ℕ) (i j : Integer) → IsQuotient s a c i → IsQuotient t b d j
     → IsQuotient (unlike s t) (a * b) (c * d) (i ⊗ j)
 quotient-product s t a b c d i j p q =
     let k = negateIf s i in

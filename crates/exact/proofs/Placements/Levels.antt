@@ -17,7 +17,7 @@ pub identity-level : AtLevel 0 identity
 identity-level = record { x = within-natural (0 * memberReach) 0 (omega arith); y = within-natural (0 * memberReach) 0 (omega arith) }
 
 -- each member adds at most its reach
-pub compose-level : (n : ℕ) (P C : ExactPlacement) → AtLevel n P → VectorWithin memberReach (C .translation) → AtLevel (suc n) (P ∘ C)
+compose-level : (n : ℕ) (P C : ExactPlacement) → AtLevel n P → VectorWithin memberReach (C .translation) → AtLevel (suc n) (P ∘ C)
 compose-level n P C h k =
     vector-widen (memberReach + n * memberReach) (suc n * memberReach) ((P ∘ C) .translation) (omega arith)
     (vector-sum memberReach (n * memberReach) (orient (P .orientation) (C .translation)) (P .translation)

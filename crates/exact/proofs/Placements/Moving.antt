@@ -9,9 +9,10 @@ use Rattle.geometry.specs.declared.placement.Placement.{Placement}
 use Rattle.geometry.specs.Placement.{IDENTITY, transformVector2, transformPoint2, _·_}
 use Rattle.exact.specs.Integer.{Integer, integer, negateIf, Within}
 use Rattle.exact.specs.IsInteger.{IsInteger, exactUpTo}
-use Rattle.exact.specs.Placement.{Vector, VectorWithin, Orientation, orient, xAxis, yAxis, ExactPlacement, identity, move, _∘_, IsVector, IsPlacement}
+use Rattle.exact.specs.Placement.{Vector, _≐ᵛ_, VectorWithin, Orientation, orient, xAxis, yAxis, ExactPlacement, identity, move, _∘_, IsVector, IsPlacement}
 use Rattle.exact.proofs.Integers.Bounds.{within-natural, within-negateIf, vector-orient}
 use Rattle.exact.proofs.Integers.Products.{unit-times, zero-times}
+use Rattle.exact.proofs.Floats.Rounding.{integer-same}
 use Rattle.exact.proofs.Floats.Sum.{add-integer}
 use Rattle.exact.proofs.Floats.Product.{mul-integer}
 use Rattle.exact.proofs.Placements.Orientation.{orient-compose}
@@ -19,7 +20,7 @@ use Rattle.exact.proofs.Placements.Orientation.{orient-compose}
 pub zero-within : Within exactUpTo (integer 0)
 zero-within = within-natural exactUpTo 0 (omega arith)
 
-pub one-within : Within exactUpTo (integer 1)
+one-within : Within exactUpTo (integer 1)
 one-within = within-natural exactUpTo 1 (omega arith)
 
 -- ---- one coordinate: u x + v y, where one of u and v is 1 or −1 and the other 0
@@ -53,7 +54,10 @@ module _ (u v x y : Float) (a b : Integer) (p : IsInteger x a) (q : IsInteger y 
   coordinate-y true n = first-coordinate n
 
 -- ---- vectors and points
-pub transform-vector-exact : (p : Placement) (T : ExactPlacement) (v : DVec2) (i : Vector) → IsPlacement p T → IsVector v i
+pub vector-same : (v : DVec2) (i j : Vector) → i ≐ᵛ j → IsVector v i → IsVector v j
+vector-same v i j e h = record { x = integer-same (v .x) (i .x) (j .x) (e .x) (h .x); y = integer-same (v .y) (i .y) (j .y) (e .y) (h .y) }
+
+transform-vector-exact : (p : Placement) (T : ExactPlacement) (v : DVec2) (i : Vector) → IsPlacement p T → IsVector v i
     → VectorWithin exactUpTo i
     → IsVector (transformVector2 p v) (orient (T .orientation) i)
 unfolding transformVector2

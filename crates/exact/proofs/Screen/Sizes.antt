@@ -59,7 +59,7 @@ zoom-at-most (fin true m e) a b = absurd a
 zoom-at-most (fin false m e) a b = let k = le-of-tests (m * up e * 1) (1 * 2 ^ zoomPower * down e) b in omega arith
 
 -- ---- one side
-pub screen-side-at-most : (min max zoom : Float) (i j : Integer) → IsInteger min i → IsInteger max j → Within (2 ^ 53) (j ⊕ negate i)
+screen-side-at-most : (min max zoom : Float) (i j : Integer) → IsInteger min i → IsInteger max j → Within (2 ^ 53) (j ⊕ negate i)
     → ZoomWithin zoom → AtMostPower (53 + zoomPower) (side min max zoom)
 unfolding side
 screen-side-at-most min max zoom i j p q w z =
@@ -75,7 +75,7 @@ at-most-finite k (inf s) h = h
 at-most-finite k (fin true m e) h = tt
 at-most-finite k (fin false m e) h = tt
 
-pub screen-side-finite : (min max zoom : Float) (i j : Integer) → IsInteger min i → IsInteger max j → Within (2 ^ 53) (j ⊕ negate i)
+screen-side-finite : (min max zoom : Float) (i j : Integer) → IsInteger min i → IsInteger max j → Within (2 ^ 53) (j ⊕ negate i)
     → ZoomWithin zoom → T (isFinite (side min max zoom))
 screen-side-finite min max zoom i j p q w z =
     at-most-finite (53 + zoomPower) (side min max zoom) (screen-side-at-most min max zoom i j p q w z)

@@ -1,4 +1,4 @@
--- `plan::lend` is safe. The lengths of its buffers are reply by a law, not counted out.
+-- `plan::lend` is safe. The lengths of its buffers are stated by a law, not counted out.
 -- Assumes nothing.
 use Prim.Native.Nat.{ℕ}
 use mathlib.Core.Path.{sym}

@@ -1,4 +1,4 @@
--- `plan::main` is safe. The length of its buffer is reply by a law, not counted out.
+-- `plan::main` is safe. The length of its buffer is stated by a law, not counted out.
 -- Assumes nothing.
 use Prim.Native.Nat.{ℕ}
 use mathlib.Core.Path.{sym}

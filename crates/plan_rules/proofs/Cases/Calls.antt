@@ -1,12 +1,10 @@
 -- Whole calls, computed from bytes: document 01's worked example, an empty sheet, and a refusal of each number from 8 to 12.
 -- Assumes nothing.
 use mathlib.Core.Path.{_≡_, refl}
-use mathlib.Core.Bool.{true}
 use mathlib.Core.List.{List, [], _∷_, _++_}
 use Prim.Native.Nat.{ℕ}
 use lib.ListN.{replicate}
-use lib.Ieee.{Float, neg}
-use Rattle.geometry.specs.declared.bbox.WorldBBox.{WorldBBox}
+use lib.Ieee.{neg}
 use Rattle.geometry.specs.Bbox.{bbox}
 use Rattle.abstract_sheet.specs.Sheet.{sheetOf}
 use Rattle.abstract_sheet.proofs.Examples.{workedText, workedCell, workedSheet}
@@ -17,7 +15,7 @@ use Rattle.plan_rules.specs.Tape.{noTag, onTape}
 use Rattle.plan_rules.specs.Outcome.{Outcome, outcome, freshPlan, outcomeOf}
 use Rattle.plan_rules.proofs.Cases.Opened.{opened}
 use Rattle.plan_rules.proofs.Cases.OpenedSheet.{openedSheet}
-use Rattle.plan_rules.proofs.Cases.Samples.{whole, page, viewing}
+use Rattle.plan_rules.specs.Samples.{whole, page, viewing}
 
 -- lent: output of so many bytes of 7, 4 counts of 8, 5 marks of 9
 abbrev call : List ℕ → Query → ℕ → Outcome

@@ -3,17 +3,18 @@
 use Prim.Native.Nat.{ℕ}
 use Rattle.geometry.proofs.Opened as geometry
 use Rattle.abstract_sheet.proofs.Opened as layout
-use Rattle.fields.specs.Field.{widths}
-use Rattle.plan_rules.specs.Event.{saturate, _⊞_, emptyPlan, after}
+use Rattle.records.specs.Sources.{label}
+use Rattle.plan_rules.specs.Event.{encode, saturate, _⊞_, emptyPlan, after}
 use Rattle.plan_rules.specs.World.{contains, hides, detailCellsFull, detailBudgetExhausted, each}
 use Rattle.plan_rules.specs.Scratch.{place, countsNamed, marksNamed}
-use Rattle.plan_rules.specs.DrawUnits.{fold, referenceDrawUnitsWith, addReferenceUnits, remember, cellDrawUnitsWith, sourceDrawUnitsWith, referenceDrawUnits, sourceDrawUnits, cellDrawUnits}
+use Rattle.plan_rules.specs.DrawUnits.{fold, referenceDrawUnitsWith, foundDrawUnits, addReferenceUnits, remember, cellDrawUnitsWith, sourceDrawUnitsWith, referenceDrawUnits, sourceDrawUnits, cellDrawUnits}
 use Rattle.plan_rules.specs.Push.{say, addLoad, pushFoundGeometry, pushGeometry, pushFoundText, pushText, pushPoint, pushFoundNode, pushNode}
-use Rattle.plan_rules.specs.Visit.{label, sourceUnits, geometryStep, textStep, nodeStep, referenceStep, cellBody, visitFoundCell, visitSourceWith, memberStep, columnStep, visitCountedReference, visitBoxedReference, visitSourcedReference, visitFoundReference, visitReference, visitSource, visitCell}
+use Rattle.plan_rules.specs.Visit.{sourceUnits, geometryStep, textStep, nodeStep, referenceStep, cellBody, visitFoundCell, visitSourceWith, memberStep, columnStep, visitCountedReference, visitBoxedReference, visitSourcedReference, visitFoundReference, visitReference, visitSource, visitCell}
 use Rattle.plan_rules.specs.Plan.{loadRootBox, loadRoot, visitRoot, plan}
-use Rattle.plan_rules.specs.Tape.{encode, putRecord, onTape}
-use Rattle.plan_rules.specs.Outcome.{viewOk, zoomOk, freshPlan, tapeOf, zeroed, delivered, soundOutcome, outcomeOf}
+use Rattle.plan_rules.specs.Tape.{putRecord, onTape}
+use Rattle.plan_rules.specs.Questions.{viewOk, zoomOk, depthOk, hasScratch, queryRefusal}
+use Rattle.plan_rules.specs.Outcome.{freshPlan, tapeOf, zeroed, delivered, soundOutcome, outcomeOf}
 
 unfoldable pub opened : ℕ
-unfolding geometry.opened layout.opened widths saturate _⊞_ emptyPlan after contains hides detailCellsFull detailBudgetExhausted each place countsNamed marksNamed fold referenceDrawUnitsWith addReferenceUnits remember cellDrawUnitsWith sourceDrawUnitsWith referenceDrawUnits sourceDrawUnits cellDrawUnits say addLoad pushFoundGeometry pushGeometry pushFoundText pushText pushPoint pushFoundNode pushNode label sourceUnits geometryStep textStep nodeStep referenceStep cellBody visitFoundCell visitSourceWith memberStep columnStep visitCountedReference visitBoxedReference visitSourcedReference visitFoundReference visitReference visitSource visitCell loadRootBox loadRoot visitRoot plan encode putRecord onTape viewOk zoomOk freshPlan tapeOf zeroed delivered soundOutcome outcomeOf
+unfolding geometry.opened layout.opened saturate _⊞_ emptyPlan after contains hides detailCellsFull detailBudgetExhausted each place countsNamed marksNamed fold referenceDrawUnitsWith foundDrawUnits addReferenceUnits remember cellDrawUnitsWith sourceDrawUnitsWith referenceDrawUnits sourceDrawUnits cellDrawUnits say addLoad pushFoundGeometry pushGeometry pushFoundText pushText pushPoint pushFoundNode pushNode label sourceUnits geometryStep textStep nodeStep referenceStep cellBody visitFoundCell visitSourceWith memberStep columnStep visitCountedReference visitBoxedReference visitSourcedReference visitFoundReference visitReference visitSource visitCell loadRootBox loadRoot visitRoot plan encode putRecord onTape viewOk zoomOk depthOk hasScratch queryRefusal freshPlan tapeOf zeroed delivered soundOutcome outcomeOf
 opened = 0

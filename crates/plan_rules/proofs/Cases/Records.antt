@@ -6,11 +6,11 @@ use mathlib.Core.List.{List, [], _∷_, _++_}
 use Prim.Native.Nat.{ℕ}
 use lib.Ieee.{nan}
 use Rattle.geometry.specs.Bbox.{bbox}
-use Rattle.plan_rules.specs.Event.{batch, text, point, proxy, droppedProxy, totals, scenePlan}
-use Rattle.plan_rules.specs.Push.{noLabel}
-use Rattle.plan_rules.specs.Tape.{encode}
+use Rattle.records.specs.Sources.{noLabel}
+use Rattle.plan_rules.specs.declared.Reason.the-variants as reason
+use Rattle.plan_rules.specs.Event.{batch, text, point, proxy, droppedProxy, totals, encode, scenePlan}
 use Rattle.plan_rules.proofs.Cases.Opened.{opened}
-use Rattle.plan_rules.proofs.Cases.Samples.{whole, spot}
+use Rattle.plan_rules.specs.Samples.{whole, spot}
 
 -- the last two bytes of a pattern whose others are 0
 abbrev ends : ℕ → ℕ → List ℕ
@@ -36,7 +36,7 @@ unfolding opened
 point-bytes = refl
 
 -- "14 proxy: cell number as label, or FFFFFFFF (hexadecimal) for none, 4; box 4 f; length 42"
-pub proxy-bytes : encode (proxy noLabel (bbox (whole 1) (whole 2) (whole 4) (whole 8)))
+pub proxy-bytes : encode (proxy reason.CellLimit noLabel (bbox (whole 1) (whole 2) (whole 4) (whole 8)))
     ≡ (42 ∷ 0 ∷ 0 ∷ 0 ∷ 14 ∷ 0 ∷ 0xff ∷ 0xff ∷ 0xff ∷ 0xff ∷ []) ++ ends 0xf0 0x3f ++ ends 0 0x40 ++ ends 0x10 0x40 ++ ends 0x20 0x40
 unfolding opened
 proxy-bytes = refl
@@ -52,6 +52,6 @@ unfolding opened
 nan-bytes = refl
 
 -- "A full proxy list drops further proxies silently."
-pub dropped-bytes : encode (droppedProxy 0 (bbox (whole 1) (whole 2) (whole 4) (whole 8))) ≡ []
+pub dropped-bytes : encode (droppedProxy reason.CellLimit 0 (bbox (whole 1) (whole 2) (whole 4) (whole 8))) ≡ []
 unfolding opened
 dropped-bytes = refl

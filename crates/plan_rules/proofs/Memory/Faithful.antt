@@ -2,7 +2,7 @@
 -- n is the number of cells and D the plan's depth; the sheet's cells are those numbered below n.
 -- Assumes nothing.
 use mathlib.Core.Path.{_≡_, refl, sym, ap, _∙_, subst}
-use mathlib.Core.Bool.{Bool, true, false, cond, not, _||_}
+use mathlib.Core.Bool.{Bool, true, false, cond, not}
 use mathlib.Core.List.{List}
 use mathlib.Core.Option.{Option, none, some}
 use Prim.Native.Nat.{ℕ, zero, suc, _+_, _-_, _*_, _≤_, _<_, max}
@@ -16,10 +16,10 @@ use Rattle.records.specs.declared.PreparedSource.{PreparedSource}
 use Rattle.records.specs.declared.PreparedSource.the-variants.{Geometry, Text, Node, Reference, Cell}
 use Rattle.records.specs.declared.PreparedReference.{PreparedReference}
 use Rattle.abstract_sheet.specs.Sheet.{CellRecord, Sheet}
-use Rattle.plan_rules.specs.Event.{saturate}
+use Rattle.plan_rules.specs.Event.{saturate, _⊞_}
 use Rattle.plan_rules.specs.Scratch.{place, isMarked}
-use Rattle.plan_rules.specs.DrawUnits.{Units, counted, scaled, fold, referenceDrawUnitsWith, addReferenceUnits, remember, cellDrawUnitsWith, sourceDrawUnitsWith, referenceDrawUnits}
-use Rattle.plan_rules.proofs.Memory.Maps.{Maps, emptyMaps, stacked, opened, cached, Tally, tally, foldMaps, addMapped, mapOrOne, freshCell, orCached, mappedCell, mappedReferenceWith, mappedSource, mappedReference}
+use Rattle.plan_rules.specs.DrawUnits.{Units, counted, scaled, fold, referenceDrawUnitsWith, foundDrawUnits, addReferenceUnits, remember, cellDrawUnitsWith, sourceDrawUnitsWith, referenceDrawUnits, numberedDrawUnits}
+use Rattle.plan_rules.specs.Maps.{Maps, emptyMaps, stacked, opened, cached, Tally, tally, foldMaps, addMapped, mapOrOne, freshCell, mappedCell, mappedReferenceWith, mappedFound, mappedSource, mappedReference}
 use Rattle.plan_rules.proofs.Memory.Places.{place-below, places-apart}
 
 deep : (d : ℕ) → eqb (suc d) 0 ≡ false
@@ -181,7 +181,7 @@ module _ (n D : ℕ) where
           let y = hv (c .references .at i) (x .counts) (x .marks) (t .maps) (h .agree) in
           fold-same c g (i + 1) _ _
           (record {
-            units = ap (λ (u : ℕ). saturate (u + visit (c .references .at i) (x .counts) (x .marks) .units)) (h .units) ∙ ap (λ (u : ℕ). saturate (t .units + u)) (y .units);
+            units = ap (λ (u : ℕ). u ⊞ visit (c .references .at i) (x .counts) (x .marks) .units) (h .units) ∙ ap (λ (u : ℕ). t .units ⊞ u) (y .units);
             agree = y .agree;
           })
 
@@ -237,10 +237,9 @@ module _ (n D : ℕ) where
       source-same (Node b) k m w d a hd = record { units = refl; agree = a }
 
     reference-with-same : (d : ℕ) (visit : PreparedSource → List ℕ → List ℕ → Units) (walk : PreparedSource → Maps → Tally) → ((x : PreparedSource) (k m : List ℕ) (w : Maps) → Agree n D k m w → Same n D (visit x k m) (walk x w))
-        → (o : Option PreparedReference) (k m : List ℕ) (w : Maps) → Agree n D k m w → Same n D (referenceDrawUnitsWith d visit o k m) (mappedReferenceWith d walk o w)
+        → (r : PreparedReference) (k m : List ℕ) (w : Maps) → Agree n D k m w → Same n D (referenceDrawUnitsWith d visit r k m) (mappedReferenceWith d walk r w)
     unfolding referenceDrawUnitsWith mappedReferenceWith
-    reference-with-same d visit walk hv none k m w a = record { units = refl; agree = a }
-    reference-with-same d visit walk hv (some r) k m w a = by (eqb (gridCount (r .grid)) 0) (leb d 1)
+    reference-with-same d visit walk hv r k m w a = by (eqb (gridCount (r .grid)) 0) (leb d 1)
       where
         by : (b t : Bool)
             → let y = cond t (tally 1 w) (walk (r .source) w) in
@@ -249,9 +248,17 @@ module _ (n D : ℕ) where
         by false true = record { units = refl; agree = a }
         by false false = record { units = ap (λ (u : ℕ). saturate (gridCount (r .grid) * max u 1)) (hv (r .source) k m w a .units); agree = hv (r .source) k m w a .agree }
 
+    found-same : (visit : PreparedReference → List ℕ → List ℕ → Units) (walk : PreparedReference → Maps → Tally) → ((r : PreparedReference) (k m : List ℕ) (w : Maps) → Agree n D k m w → Same n D (visit r k m) (walk r w))
+        → (o : Option PreparedReference) (k m : List ℕ) (w : Maps) → Agree n D k m w → Same n D (foundDrawUnits visit o k m) (mappedFound walk o w)
+    unfolding foundDrawUnits mappedFound
+    found-same visit walk hv none k m w a = record { units = refl; agree = a }
+    found-same visit walk hv (some r) k m w a = hv r k m w a
+
     -- THE MEMORY: at every depth that a plan reaches, a reference counts the same over the places and over the maps, and the two agree afterwards
-    pub reference-same : (d : ℕ) → d ≤ D → (r : ℕ) (k m : List ℕ) (w : Maps) → Agree n D k m w → Same n D (referenceDrawUnits S n d r k m) (mappedReference S d r w)
+    pub reference-same : (d : ℕ) → d ≤ D → (r : PreparedReference) (k m : List ℕ) (w : Maps) → Agree n D k m w → Same n D (referenceDrawUnits S n d r k m) (mappedReference S d r w)
     unfolding referenceDrawUnits mappedReference
-    reference-same zero h r k m w a = reference-with-same zero _ _ (λ x k m w a. record { units = refl; agree = a }) (S .reference r) k m w a
+    reference-same zero h r k m w a = reference-with-same zero _ _ (λ x k m w a. record { units = refl; agree = a }) r k m w a
     reference-same (suc d) h r k m w a =
-        reference-with-same (suc d) _ _ (λ x k m w a. source-same (referenceDrawUnits S n d) (mappedReference S d) (reference-same d (omega arith)) x k m w d a (omega arith)) (S .reference r) k m w a
+        reference-with-same (suc d) _ _
+        (λ x k m w a. source-same (numberedDrawUnits S n d) (λ r w. mappedFound (mappedReference S d) (S .reference r) w)
+        (λ r k m w a. found-same _ _ (reference-same d (omega arith)) (S .reference r) k m w a) x k m w d a (omega arith)) r k m w a

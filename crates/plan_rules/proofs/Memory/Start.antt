@@ -3,8 +3,8 @@
 use mathlib.Core.Path.{_≡_, refl, subst}
 use mathlib.Core.Bool.{Bool, true, false}
 use mathlib.Core.List.{List}
-use mathlib.Core.Option.{Option, none, some}
-use Prim.Native.Nat.{ℕ, _+_, _*_, _≤_, _<_}
+use mathlib.Core.Option.{none}
+use Prim.Native.Nat.{ℕ, _+_, _*_, _≤_}
 use native.Mathlib.Nat.{mul-comm}
 use native.Mathlib.Omega.{arith}
 use lib.ListN.{replicate}
@@ -14,7 +14,7 @@ use Rattle.walk.specs.Find.{countOf}
 use Rattle.abstract_sheet.specs.Sheet.{sheetOf, cells}
 use Rattle.abstract_sheet.proofs.Lookup.{item-some, item-below}
 use Rattle.plan_rules.specs.Scratch.{countsNamed, marksNamed}
-use Rattle.plan_rules.proofs.Memory.Maps.{emptyMaps}
+use Rattle.plan_rules.specs.Maps.{emptyMaps}
 use Rattle.plan_rules.proofs.Memory.Faithful.{Agree, zeroed-agree, CellsBelow}
 
 -- the scratch of `freshPlan`

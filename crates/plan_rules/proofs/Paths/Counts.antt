@@ -13,42 +13,45 @@ use Rattle.records.specs.declared.PreparedSource.the-variants.{Geometry, Text, 
 use Rattle.records.specs.declared.PreparedReference.{PreparedReference}
 use Rattle.abstract_sheet.specs.Sheet.{CellRecord, Sheet}
 use Rattle.plan_rules.specs.Scratch.{countingPlace, rememberedPlace, countPlace, isMarked}
-use Rattle.plan_rules.specs.DrawUnits.{Units, counted, scaled, fold, referenceDrawUnitsWith, addReferenceUnits, remember, cellDrawUnitsWith, sourceDrawUnitsWith, referenceDrawUnits, sourceDrawUnits, cellDrawUnits}
+use Rattle.plan_rules.specs.DrawUnits.{counted, scaled, fold, referenceDrawUnitsWith, foundDrawUnits, addReferenceUnits, remember, cellDrawUnitsWith, sourceDrawUnitsWith, referenceDrawUnits, numberedDrawUnits, sourceDrawUnits, cellDrawUnits}
+
+-- ---- `reference_draw_units`
+
+module _ (S : Sheet) (cells d : ℕ) (r : PreparedReference) (k m : List ℕ) where
+  pub units-empty : eqb (gridCount (r .grid)) 0 ≡ true → referenceDrawUnits S cells d r k m ≡ counted 0 k m
+  units-empty a = by d
+    where
+      by : (d : ℕ) → referenceDrawUnits S cells d r k m ≡ counted 0 k m
+      by zero = unfold referenceDrawUnits referenceDrawUnitsWith in (rw a)
+      by (suc d) = unfold referenceDrawUnits referenceDrawUnitsWith in (rw a)
+
+  pub units-shallow : eqb (gridCount (r .grid)) 0 ≡ false → leb d 1 ≡ true → referenceDrawUnits S cells d r k m ≡ scaled (gridCount (r .grid)) (counted 1 k m)
+  units-shallow a = by d
+    where
+      by : (d : ℕ) → leb d 1 ≡ true → referenceDrawUnits S cells d r k m ≡ scaled (gridCount (r .grid)) (counted 1 k m)
+      by zero b = unfold referenceDrawUnits referenceDrawUnitsWith in (rw a)
+      by (suc d) b = unfold referenceDrawUnits referenceDrawUnitsWith in (rw (a, b))
+
+  pub units-deep : eqb (gridCount (r .grid)) 0 ≡ false → leb d 1 ≡ false → referenceDrawUnits S cells d r k m ≡ scaled (gridCount (r .grid)) (sourceDrawUnits S cells (d - 1) (r .source) k m)
+  units-deep a = by d
+    where
+      by : (d : ℕ) → leb d 1 ≡ false → referenceDrawUnits S cells d r k m ≡ scaled (gridCount (r .grid)) (sourceDrawUnits S cells (d - 1) (r .source) k m)
+      by zero b = absurd (true≢false b)
+      by (suc d) b =
+          let j : d ≡ suc d - 1 = omega arith in
+          subst (λ (x : ℕ). referenceDrawUnits S cells (suc d) r k m ≡ scaled (gridCount (r .grid)) (sourceDrawUnits S cells x (r .source) k m)) j
+          (unfold referenceDrawUnits referenceDrawUnitsWith sourceDrawUnits in (rw (a, b)))
 
 module _ (S : Sheet) (cells d n : ℕ) (k m : List ℕ) where
-  -- ---- `reference_draw_units`
+  -- ---- by number
 
-  pub units-missing : S .reference n ≡ none → referenceDrawUnits S cells d n k m ≡ counted 0 k m
-  units-missing e = by d
-    where
-      by : (d : ℕ) → referenceDrawUnits S cells d n k m ≡ counted 0 k m
-      by zero = unfold referenceDrawUnits referenceDrawUnitsWith in (rw e)
-      by (suc d) = unfold referenceDrawUnits referenceDrawUnitsWith in (rw e)
+  pub units-missing : S .reference n ≡ none → numberedDrawUnits S cells d n k m ≡ counted 0 k m
+  unfolding foundDrawUnits
+  units-missing e = rw e
 
-  module _ (r : PreparedReference) (e : S .reference n ≡ some r) where
-    pub units-empty : eqb (gridCount (r .grid)) 0 ≡ true → referenceDrawUnits S cells d n k m ≡ counted 0 k m
-    units-empty a = by d
-      where
-        by : (d : ℕ) → referenceDrawUnits S cells d n k m ≡ counted 0 k m
-        by zero = unfold referenceDrawUnits referenceDrawUnitsWith in (rw (e, a))
-        by (suc d) = unfold referenceDrawUnits referenceDrawUnitsWith in (rw (e, a))
-
-    pub units-shallow : eqb (gridCount (r .grid)) 0 ≡ false → leb d 1 ≡ true → referenceDrawUnits S cells d n k m ≡ scaled (gridCount (r .grid)) (counted 1 k m)
-    units-shallow a = by d
-      where
-        by : (d : ℕ) → leb d 1 ≡ true → referenceDrawUnits S cells d n k m ≡ scaled (gridCount (r .grid)) (counted 1 k m)
-        by zero b = unfold referenceDrawUnits referenceDrawUnitsWith in (rw (e, a))
-        by (suc d) b = unfold referenceDrawUnits referenceDrawUnitsWith in (rw (e, a, b))
-
-    pub units-deep : eqb (gridCount (r .grid)) 0 ≡ false → leb d 1 ≡ false → referenceDrawUnits S cells d n k m ≡ scaled (gridCount (r .grid)) (sourceDrawUnits S cells (d - 1) (r .source) k m)
-    units-deep a = by d
-      where
-        by : (d : ℕ) → leb d 1 ≡ false → referenceDrawUnits S cells d n k m ≡ scaled (gridCount (r .grid)) (sourceDrawUnits S cells (d - 1) (r .source) k m)
-        by zero b = absurd (true≢false b)
-        by (suc d) b =
-            let j : d ≡ suc d - 1 = omega arith in
-            subst (λ (x : ℕ). referenceDrawUnits S cells (suc d) n k m ≡ scaled (gridCount (r .grid)) (sourceDrawUnits S cells x (r .source) k m)) j
-            (unfold referenceDrawUnits referenceDrawUnitsWith sourceDrawUnits in (rw (e, a, b)))
+  pub units-found : (r : PreparedReference) → S .reference n ≡ some r → numberedDrawUnits S cells d n k m ≡ referenceDrawUnits S cells d r k m
+  unfolding foundDrawUnits
+  units-found r e = rw e
 
   -- ---- `source_draw_units`
 
@@ -64,7 +67,7 @@ module _ (S : Sheet) (cells d n : ℕ) (k m : List ℕ) where
   unfolding sourceDrawUnits sourceDrawUnitsWith
   units-node = refl
 
-  pub units-reference : sourceDrawUnits S cells d (Reference n) k m ≡ referenceDrawUnits S cells d n k m
+  pub units-reference : sourceDrawUnits S cells d (Reference n) k m ≡ numberedDrawUnits S cells d n k m
   unfolding sourceDrawUnits sourceDrawUnitsWith
   units-reference = refl
 
@@ -74,9 +77,9 @@ module _ (S : Sheet) (cells d n : ℕ) (k m : List ℕ) where
 
   -- ---- `cell_draw_units`
 
-  found : (o : Option CellRecord) → S .cell n ≡ o → cellDrawUnits S cells d n k m ≡ cellDrawUnitsWith S cells d (referenceDrawUnits S cells d) n o k m
+  found : (o : Option CellRecord) → S .cell n ≡ o → cellDrawUnits S cells d n k m ≡ cellDrawUnitsWith S cells d (numberedDrawUnits S cells d) n o k m
   unfolding cellDrawUnits
-  found o e = ap (λ (o : Option CellRecord). cellDrawUnitsWith S cells d (referenceDrawUnits S cells d) n o k m) e
+  found o e = ap (λ (o : Option CellRecord). cellDrawUnitsWith S cells d (numberedDrawUnits S cells d) n o k m) e
 
   pub units-cell-missing : S .cell n ≡ none → cellDrawUnits S cells d n k m ≡ counted 1 k m
   unfolding cellDrawUnitsWith
@@ -99,6 +102,6 @@ module _ (S : Sheet) (cells d n : ℕ) (k m : List ℕ) where
 
         pub units-counted : isMarked m (countingPlace cells n) ≡ false
             → cellDrawUnits S cells d n k m
-            ≡ remember S cells d n (fold (addReferenceUnits (referenceDrawUnits S cells d) c) (c .references .count) 0 (counted (c .«direct_draw_units») k (set m (countingPlace cells n) 1)))
+            ≡ remember S cells d n (fold (addReferenceUnits (numberedDrawUnits S cells d) c) (c .references .count) 0 (counted (c .«direct_draw_units») k (set m (countingPlace cells n) 1)))
         unfolding cellDrawUnitsWith
         units-counted x = found (some c) e ∙ (rw (deep, fresh, x))

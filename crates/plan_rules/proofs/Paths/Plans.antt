@@ -11,11 +11,12 @@ use Rattle.geometry.specs.declared.bbox.Bounds.the-variants.{Absent, Box}
 use Rattle.geometry.specs.Placement.{IDENTITY}
 use Rattle.geometry.specs.Bbox.{bbox, overlaps}
 use Rattle.abstract_sheet.specs.Sheet.{CellRecord, Sheet}
-use Rattle.plan_rules.specs.Event.{Event, totals, Step}
+use Rattle.plan_rules.specs.declared.Reason.the-variants as reason
+use Rattle.plan_rules.specs.Event.{Event, Step}
 use Rattle.plan_rules.specs.World.{Query, World}
-use Rattle.plan_rules.specs.Push.{say, addLoad}
+use Rattle.plan_rules.specs.Push.{addLoad}
 use Rattle.plan_rules.specs.Visit.{visitCell}
-use Rattle.plan_rules.specs.Plan.{loadRootBox, loadRoot, visitRoot, plan}
+use Rattle.plan_rules.specs.Plan.{loadRootBox, loadRoot, visitRoot}
 
 module _ {P A : Type 0} (enter : Step → P → P) (emit : P → Event → ℕ → A → A) (S : Sheet) (cells : ℕ) (q : Query) (t : P) (w : World A) where
   -- ---- depth 0
@@ -42,7 +43,7 @@ module _ {P A : Type 0} (enter : Step → P → P) (emit : P → Event → ℕ �
       unfolding loadRootBox
       root-outside a = boxed (Box x₀ y₀ x₁ y₁) has-box ∙ (rw a)
 
-      pub root-loaded : overlaps (bbox x₀ y₀ x₁ y₁) (q .view) ≡ true → visitRoot enter emit S cells q 0 t w ≡ addLoad enter emit t (q .root) (bbox x₀ y₀ x₁ y₁) w
+      pub root-loaded : overlaps (bbox x₀ y₀ x₁ y₁) (q .view) ≡ true → visitRoot enter emit S cells q 0 t w ≡ addLoad enter emit t reason.DepthZero (q .root) (bbox x₀ y₀ x₁ y₁) w
       unfolding loadRootBox
       root-loaded a = boxed (Box x₀ y₀ x₁ y₁) has-box ∙ (rw a)
 
@@ -51,9 +52,3 @@ module _ {P A : Type 0} (enter : Step → P → P) (emit : P → Event → ℕ �
   pub root-visited : (d : ℕ) → 0 < d → visitRoot enter emit S cells q d t w ≡ visitCell enter emit S cells q d t (q .root) IDENTITY w
   root-visited zero h = absurd (let z : ⊥ = omega arith in z)
   root-visited (suc d) h = unfold visitRoot in refl
-
-  -- ---- totals last
-
-  pub plan-is : (v : World A) → visitRoot enter emit S cells q (q .depth) t w ≡ v → plan enter emit S cells q t w ≡ say enter emit t (totals (v .state)) v
-  unfolding plan
-  plan-is v e = ap (λ (v : World A). say enter emit t (totals (v .state)) v) e

@@ -14,21 +14,24 @@ use Rattle.geometry.specs.Bbox.{transformBbox, overlaps, pointInBbox}
 use Rattle.geometry.specs.Screen.{screenSize, isSubpixel, isDenseBatch}
 use Rattle.records.specs.declared.PreparedGeometry.{PreparedGeometry}
 use Rattle.records.specs.declared.PreparedText.{PreparedText}
+use Rattle.records.specs.Sources.{noLabel}
 use Rattle.abstract_sheet.specs.Sheet.{NodeRecord, Sheet}
 use Rattle.plan_rules.specs.Limits.{maxLoadProxies}
+use Rattle.plan_rules.specs.declared.Reason.{Reason}
+use Rattle.plan_rules.specs.declared.Reason.the-variants as reason
 use Rattle.plan_rules.specs.Event.{Event, batch, text, point, proxy, droppedProxy, skippedBatch, culledBatch, Step, pointAt}
-use Rattle.plan_rules.specs.World.{Query, hides, detailBudgetExhausted, World, Flow, go, halt, each}
-use Rattle.plan_rules.specs.Push.{noLabel, say, addLoad, pushFoundGeometry, pushGeometry, pushFoundText, pushText, pushPoint, pushFoundNode, pushNode}
+use Rattle.plan_rules.specs.World.{Query, hides, detailBudgetExhausted, World, go, halt, each}
+use Rattle.plan_rules.specs.Push.{say, addLoad, pushFoundGeometry, pushGeometry, pushFoundText, pushText, pushPoint, pushFoundNode, pushNode}
 
 module _ {P A : Type 0} (enter : Step → P → P) (emit : P → Event → ℕ → A → A) where
   -- ---- `add_load`
 
-  module _ (t : P) (l : ℕ) (b : WorldBBox) (w : World A) where
-    pub load-listed : w .state .«load_proxies» < maxLoadProxies → addLoad enter emit t l b w ≡ say enter emit t (proxy l b) w
+  module _ (t : P) (y : Reason) (l : ℕ) (b : WorldBBox) (w : World A) where
+    pub load-listed : w .state .«load_proxies» < maxLoadProxies → addLoad enter emit t y l b w ≡ say enter emit t (proxy y l b) w
     unfolding addLoad
     load-listed h = rw (lt-ltb _ _ h)
 
-    pub load-dropped : maxLoadProxies ≤ w .state .«load_proxies» → addLoad enter emit t l b w ≡ say enter emit t (droppedProxy l b) w
+    pub load-dropped : maxLoadProxies ≤ w .state .«load_proxies» → addLoad enter emit t y l b w ≡ say enter emit t (droppedProxy y l b) w
     unfolding addLoad
     load-dropped h = rw (le-ltb _ _ h)
 
@@ -62,11 +65,11 @@ module _ {P A : Type 0} (enter : Step → P → P) (emit : P → Event → ℕ �
             geometry-skipped a = rw (e, shown, seen, a)
 
             module _ (large : isSubpixel size ≡ false) where
-              pub geometry-dense : isDenseBatch size (g .«element_count») ≡ true → pushGeometry enter emit S q t n p w ≡ addLoad enter emit t noLabel box w
+              pub geometry-dense : isDenseBatch size (g .«element_count») ≡ true → pushGeometry enter emit S q t n p w ≡ addLoad enter emit t reason.DenseBatch noLabel box w
               unfolding pushGeometry pushFoundGeometry
               geometry-dense a = rw (e, shown, seen, large, a)
 
-              pub geometry-exhausted : isDenseBatch size (g .«element_count») ≡ false → detailBudgetExhausted q (w .state) ≡ true → pushGeometry enter emit S q t n p w ≡ addLoad enter emit t noLabel box w
+              pub geometry-exhausted : isDenseBatch size (g .«element_count») ≡ false → detailBudgetExhausted q (w .state) ≡ true → pushGeometry enter emit S q t n p w ≡ addLoad enter emit t reason.OtherLimit noLabel box w
               unfolding pushGeometry pushFoundGeometry
               geometry-exhausted a x = rw (e, shown, seen, large, a, x)
 

@@ -21,6 +21,7 @@ use Rattle.records.specs.declared.PreparedReference.{PreparedReference}
 use Rattle.abstract_sheet.specs.Sheet.{NodeRecord, CellRecord, Sheet}
 use Rattle.plan_rules.specs.declared.ScenePlan.{ScenePlan}
 use Rattle.plan_rules.specs.Limits.{maxLoadProxies}
+use Rattle.plan_rules.specs.declared.Reason.{Reason}
 use Rattle.plan_rules.specs.Event.{Event, batch, text, point, proxy, droppedProxy, skippedMember, skippedBatch, culledReference, culledBatch, nodeGridLimit, detailCell, totals, Step, batchAt, textAt, nodeAt, referenceAt, member, pointAt}
 use Rattle.plan_rules.specs.World.{Query}
 use Rattle.plan_rules.proofs.Simulation.{IsNode}
@@ -30,8 +31,8 @@ abbrev pub Room : ScenePlan → Event → Type 0
 Room s (batch n p) = Unit {0}
 Room s (text n v) = Unit {0}
 Room s (point l k v) = Unit {0}
-Room s (proxy l b) = Yes (ltb (s .«load_proxies») maxLoadProxies)
-Room s (droppedProxy l b) = Yes (not (ltb (s .«load_proxies») maxLoadProxies))
+Room s (proxy y l b) = Yes (ltb (s .«load_proxies») maxLoadProxies)
+Room s (droppedProxy y l b) = Yes (not (ltb (s .«load_proxies») maxLoadProxies))
 Room s (skippedMember g b) = Unit {0}
 Room s (skippedBatch b) = Unit {0}
 Room s culledReference = Unit {0}
@@ -54,8 +55,8 @@ module _ {P : Type 0} (enter : Step → P → P) (S : Sheet) (q : Query) where
     pub listed-text : (d : ℕ) (t : P) (n : ℕ) (x : PreparedText) (p : Placement) → Stands d t (Text n) p → S .text n ≡ some x → Allowed t (text n (transformPoint2 p (x .origin)))
     pub listed-point : (d : ℕ) (t : P) (n : ℕ) (x : NodeRecord) (j : ℕ) (p : Placement) → Stands d t (Node n) p → S .node n ≡ some x → j < x .count
         → Allowed (enter (pointAt j) t) (point (x .layer) (x .«node_type») (transformPoint2 p (x .point j)))
-    pub listed-proxy : (t : P) (l : ℕ) (b : WorldBBox) → Allowed t (proxy l b)
-    pub dropped-proxy : (t : P) (l : ℕ) (b : WorldBBox) → Allowed t (droppedProxy l b)
+    pub listed-proxy : (t : P) (y : Reason) (l : ℕ) (b : WorldBBox) → Allowed t (proxy y l b)
+    pub dropped-proxy : (t : P) (y : Reason) (l : ℕ) (b : WorldBBox) → Allowed t (droppedProxy y l b)
     -- what is skipped, culled or counted
     pub skipped-batch : (d : ℕ) (t : P) (n : ℕ) (g : PreparedGeometry) (p : Placement) → Stands d t (Geometry n) p → S .geometry n ≡ some g
         → Yes (isSubpixel (screenSize (transformBbox p (g .bbox)) (q .zoom))) → Allowed t (skippedBatch (transformBbox p (g .bbox)))
@@ -79,8 +80,8 @@ module _ {P : Type 0} (enter : Step → P → P) (S : Sheet) (q : Query) where
     listed-batch = λ d t n b p h e. tt;
     listed-text = λ d t n x p h e. tt;
     listed-point = λ d t n x j p h e l. tt;
-    listed-proxy = λ t l b. tt;
-    dropped-proxy = λ t l b. tt;
+    listed-proxy = λ t y l b. tt;
+    dropped-proxy = λ t y l b. tt;
     skipped-batch = λ d t n b p h e y. tt;
     skipped-member = λ d t n r b x y p h e eb k l z. tt;
     culled-reference = λ t. tt;

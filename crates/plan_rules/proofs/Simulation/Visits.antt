@@ -13,23 +13,26 @@ use Rattle.geometry.specs.declared.bbox.Bounds.{Bounds}
 use Rattle.geometry.specs.declared.bbox.Bounds.the-variants.{Absent, Box}
 use Rattle.geometry.specs.declared.placement.Placement.{Placement}
 use Rattle.geometry.specs.Placement.{IDENTITY, transformPoint2, _·_}
-use Rattle.geometry.specs.Bbox.{transformBbox, overlaps, pointInBbox, sourceIsDegenerate, bbox, boxed}
+use Rattle.geometry.specs.Bbox.{transformBbox, overlaps, pointInBbox, sourceIsDegenerate, bbox, boxed, transformBounds, isOutside}
 use Rattle.geometry.specs.Grid.{gridCount, gridMemberTransform, referenceBbox}
-use Rattle.geometry.specs.Screen.{screenSize, referenceScreenSize, isSubpixel, isDenseBatch, shouldCollapseReference}
+use Rattle.geometry.specs.Screen.{screenSize, referenceScreenSize, isSubpixel, isDenseBatch, collapseTest, collapses}
 use Rattle.records.specs.declared.PreparedSource.{PreparedSource}
 use Rattle.records.specs.declared.PreparedSource.the-variants.{Geometry, Text, Node, Reference, Cell}
 use Rattle.records.specs.declared.PreparedGeometry.{PreparedGeometry}
 use Rattle.records.specs.declared.PreparedText.{PreparedText}
 use Rattle.records.specs.declared.PreparedReference.{PreparedReference}
+use Rattle.records.specs.Sources.{noLabel, label}
 use Rattle.abstract_sheet.specs.Sheet.{NodeRecord, CellRecord, Sheet}
 use Rattle.plan_rules.specs.declared.ScenePlan.{ScenePlan}
 use Rattle.plan_rules.specs.Limits.{maxLoadProxies}
+use Rattle.plan_rules.specs.declared.Reason.{Reason}
+use Rattle.plan_rules.specs.declared.Reason.the-variants as reason
 use Rattle.plan_rules.specs.Event.{Event, batch, text, point, proxy, droppedProxy, skippedMember, skippedBatch, culledReference, culledBatch, nodeGridLimit, detailCell, totals, Step, batchAt, textAt, nodeAt, referenceAt, member, pointAt, after}
 use Rattle.plan_rules.specs.World.{Query, hides, detailCellsFull, detailBudgetExhausted, World, world, Flow, go, halt, setMark}
 use Rattle.plan_rules.specs.Scratch.{openPlace, isMarked}
 use Rattle.plan_rules.specs.DrawUnits.{Units, referenceDrawUnits}
-use Rattle.plan_rules.specs.Push.{noLabel, say, addLoad, addLoadIfBoxed, pushFoundGeometry, pushGeometry, pushFoundText, pushText, pushPoint, pushFoundNode, pushNode}
-use Rattle.plan_rules.specs.Visit.{label, transformBounds, isOutside, sourceUnits, haltWithCell, haltWithMember, VisitReference, VisitSource, geometryStep, textStep, nodeStep, referenceStep, cellBody, visitFoundCell, visitSourceWith, memberStep, columnStep, visitCountedReference, visitBoxedReference, visitSourcedReference, visitFoundReference, visitReference, visitCell}
+use Rattle.plan_rules.specs.Push.{say, addLoad, addLoadIfBoxed, pushFoundGeometry, pushGeometry, pushFoundText, pushText, pushPoint, pushFoundNode, pushNode}
+use Rattle.plan_rules.specs.Visit.{sourceUnits, haltWithCell, haltWithMember, VisitReference, VisitSource, geometryStep, textStep, nodeStep, referenceStep, cellBody, visitFoundCell, visitSourceWith, memberStep, columnStep, visitCountedReference, visitBoxedReference, visitSourcedReference, visitFoundReference, visitReference, visitCell}
 use Rattle.plan_rules.specs.Plan.{loadRootBox, loadRoot, visitRoot, plan}
 use Rattle.plan_rules.proofs.Simulation.{IsNode, Related, related, RelatedFlow, goes, halts, RelatedSource, source-goes, source-halts, Keeps, KeepsFlow, KeepsSource, apply-sim, apply-flow-sim, cond-sim, cond-flow-sim, bind-sim, ending-sim, each-sim}
 use Rattle.plan_rules.proofs.Simulation.Premises.{Room, Premises}
@@ -41,20 +44,20 @@ module _ {PA PB A B : Type 0} (enterA : Step → PA → PA) (enterB : Step → P
   unfolding say
   say-sim ta tb e ok s room a b k m r = related (keeps ta tb e ok s room a b r)
 
-  pub load-sim : (ta : PA) (tb : PB) (l : ℕ) (x : WorldBBox) → Keeps R (addLoad enterA emitA ta l x) (addLoad enterB emitB tb l x)
+  pub load-sim : (ta : PA) (tb : PB) (y : Reason) (l : ℕ) (x : WorldBBox) → Keeps R (addLoad enterA emitA ta y l x) (addLoad enterB emitB tb y l x)
   unfolding addLoad
-  load-sim ta tb l x s a b k m r =
+  load-sim ta tb y l x s a b k m r =
       cond-sim R (ltb (s .«load_proxies») maxLoadProxies)
-      (λ y. say-sim ta tb (proxy l x) (G .listed-proxy ta l x) s y a b k m r)
-      (λ y. say-sim ta tb (droppedProxy l x) (G .dropped-proxy ta l x) s y a b k m r)
+      (λ z. say-sim ta tb (proxy y l x) (G .listed-proxy ta y l x) s z a b k m r)
+      (λ z. say-sim ta tb (droppedProxy y l x) (G .dropped-proxy ta y l x) s z a b k m r)
 
-  pub load-if-boxed-sim : (ta : PA) (tb : PB) (l : ℕ) (x : Bounds) → Keeps R (addLoadIfBoxed enterA emitA ta l x) (addLoadIfBoxed enterB emitB tb l x)
-  load-if-boxed-sim ta tb l Absent s a b k m r = related r
-  load-if-boxed-sim ta tb l (Box x₀ y₀ x₁ y₁) s a b k m r = load-sim ta tb l (bbox x₀ y₀ x₁ y₁) s a b k m r
+  pub load-if-boxed-sim : (ta : PA) (tb : PB) (y : Reason) (l : ℕ) (x : Bounds) → Keeps R (addLoadIfBoxed enterA emitA ta y l x) (addLoadIfBoxed enterB emitB tb y l x)
+  load-if-boxed-sim ta tb y l Absent s a b k m r = related r
+  load-if-boxed-sim ta tb y l (Box x₀ y₀ x₁ y₁) s a b k m r = load-sim ta tb y l (bbox x₀ y₀ x₁ y₁) s a b k m r
 
   halt-with-cell-sim : (ta : PA) (tb : PB) (n : ℕ) (x : Bounds) {f : Flow A} {g : Flow B} → RelatedFlow R f g → RelatedFlow R (haltWithCell enterA emitA ta n x f) (haltWithCell enterB emitB tb n x g)
   halt-with-cell-sim ta tb n x (goes h) = goes h
-  halt-with-cell-sim ta tb n x (halts h) = halts (apply-sim R (addLoadIfBoxed enterA emitA ta n x) (addLoadIfBoxed enterB emitB tb n x) (load-if-boxed-sim ta tb n x) h)
+  halt-with-cell-sim ta tb n x (halts h) = halts (apply-sim R (addLoadIfBoxed enterA emitA ta reason.OtherLimit n x) (addLoadIfBoxed enterB emitB tb reason.OtherLimit n x) (load-if-boxed-sim ta tb reason.OtherLimit n x) h)
 
   -- ---- pushes
 
@@ -68,8 +71,8 @@ module _ {PA PB A B : Type 0} (enterA : Step → PA → PA) (enterB : Step → P
       cond-sim R (hides q (x .layer) (x .«data_type»)) (λ _. related r)
       (λ _. cond-sim R (not (overlaps box (q .view))) (λ _. say-sim ta tb culledBatch (G .culled-batch ta) s tt a b k m r)
       (λ _. cond-sim R (isSubpixel size) (λ y. say-sim ta tb (skippedBatch box) (G .skipped-batch d ta n x p h e y) s tt a b k m r)
-      (λ _. cond-sim R (isDenseBatch size (x .«element_count»)) (λ _. load-sim ta tb noLabel box s a b k m r)
-      (λ _. cond-sim R (detailBudgetExhausted q s) (λ _. load-sim ta tb noLabel box s a b k m r)
+      (λ _. cond-sim R (isDenseBatch size (x .«element_count»)) (λ _. load-sim ta tb _ noLabel box s a b k m r)
+      (λ _. cond-sim R (detailBudgetExhausted q s) (λ _. load-sim ta tb _ noLabel box s a b k m r)
       (λ _. say-sim ta tb (batch n p) (G .listed-batch d ta n x p h e) s tt a b k m r)))))
 
   geometry-sim : (d : ℕ) (ta : PA) (tb : PB) (n : ℕ) (p : Placement) → Stands d ta (Geometry n) p → Keeps R (pushGeometry enterA emitA S q ta n p) (pushGeometry enterB emitB S q tb n p)
@@ -119,8 +122,8 @@ module _ {PA PB A B : Type 0} (enterA : Step → PA → PA) (enterB : Step → P
     module _ (ta : PA) (tb : PB) (n : ℕ) (c : CellRecord) (p : Placement) (box : Bounds) (h : Stands d ta (Cell n) p) (e : S .cell n ≡ some c) where
       -- at an exhausted budget each loop adds the cell's box and is over
       step-sim : (s : ScenePlan) (a : A) (b : B) (k m : List ℕ) → R s a b → {f : Flow A} {g : Flow B} → RelatedFlow R f g
-          → RelatedFlow R (cond (detailBudgetExhausted q s) (halt (addLoadIfBoxed enterA emitA ta n box (world s a k m))) f) (cond (detailBudgetExhausted q s) (halt (addLoadIfBoxed enterB emitB tb n box (world s b k m))) g)
-      step-sim s a b k m r u = cond-flow-sim R (detailBudgetExhausted q s) (λ _. halts (load-if-boxed-sim ta tb n box s a b k m r)) (λ _. u)
+          → RelatedFlow R (cond (detailBudgetExhausted q s) (halt (addLoadIfBoxed enterA emitA ta reason.OtherLimit n box (world s a k m))) f) (cond (detailBudgetExhausted q s) (halt (addLoadIfBoxed enterB emitB tb reason.OtherLimit n box (world s b k m))) g)
+      step-sim s a b k m r u = cond-flow-sim R (detailBudgetExhausted q s) (λ _. halts (load-if-boxed-sim ta tb _ n box s a b k m r)) (λ _. u)
 
       pub geometry-step-sim : (i : ℕ) → i < c .geometries .count → KeepsFlow R (geometryStep enterA emitA S cells q ta n c p box i) (geometryStep enterB emitB S cells q tb n c p box i)
       unfolding geometryStep
@@ -152,10 +155,10 @@ module _ {PA PB A B : Type 0} (enterA : Step → PA → PA) (enterB : Step → P
     found-cell-sim ta tb n p h none e s a b k m r = related r
     found-cell-sim ta tb n p h (some c) e s a b k m r =
         let box = transformBounds p (c .bbox) in
-        cond-sim R (isOutside q box) (λ _. related r)
-        (λ _. cond-sim R (detailCellsFull s) (λ _. load-if-boxed-sim ta tb n box s a b k m r)
-        (λ _. cond-sim R (detailBudgetExhausted q s) (λ _. load-if-boxed-sim ta tb n box s a b k m r)
-        (λ _. cond-sim R (isMarked m (openPlace cells n)) (λ _. load-if-boxed-sim ta tb n box s a b k m r)
+        cond-sim R (isOutside box (q .view)) (λ _. related r)
+        (λ _. cond-sim R (detailCellsFull s) (λ _. load-if-boxed-sim ta tb _ n box s a b k m r)
+        (λ _. cond-sim R (detailBudgetExhausted q s) (λ _. load-if-boxed-sim ta tb _ n box s a b k m r)
+        (λ _. cond-sim R (isMarked m (openPlace cells n)) (λ _. load-if-boxed-sim ta tb _ n box s a b k m r)
         (λ _. apply-sim R (setMark (openPlace cells n) 0) (setMark (openPlace cells n) 0) (λ s a b k m r. related r)
         (ending-sim R (apply-flow-sim R (cellBody enterA emitA S cells q ta n c p box va) (cellBody enterB emitB S cells q tb n c p box vb) (body-sim ta tb n c p box h e)
         (say-sim ta tb detailCell (G .detail-cell ta) s tt a b k (set m (openPlace cells n) 1) r)))))))
@@ -187,7 +190,7 @@ module _ {PA PB A B : Type 0} (enterA : Step → PA → PA) (enterB : Step → P
         let ha = enterA (member x y) ta in
         let hb = enterB (member x y) tb in
         halts (apply-sim R (say enterA emitA ha nodeGridLimit) (say enterB emitB hb nodeGridLimit) (λ s. say-sim ha hb nodeGridLimit (G .node-grid-limit d ta n r x y p h e x< y< i) s tt)
-        (apply-sim R (addLoad enterA emitA ha l z) (addLoad enterB emitB hb l z) (load-sim ha hb l z) u))
+        (apply-sim R (addLoad enterA emitA ha reason.OtherLimit l z) (addLoad enterB emitB hb reason.OtherLimit l z) (load-sim ha hb reason.OtherLimit l z) u))
 
     pub member-sim : (u x : ℕ) → x < r .grid .columns → (y : ℕ) → y < r .grid .rows → KeepsFlow R (memberStep enterA emitA S cells q va d ta r p sb wb u x y) (memberStep enterB emitB S cells q vb d tb r p sb wb u x y)
     unfolding memberStep
@@ -196,10 +199,10 @@ module _ {PA PB A B : Type 0} (enterA : Step → PA → PA) (enterB : Step → P
         let size = referenceScreenSize box (q .zoom) (sourceIsDegenerate sb) in
         let hereA = enterA (member x y) ta in
         let hereB = enterB (member x y) tb in
-        cond-flow-sim R (detailBudgetExhausted q s) (λ _. halts (load-sim ta tb (label (r .source)) wb s a b k m o))
+        cond-flow-sim R (detailBudgetExhausted q s) (λ _. halts (load-sim ta tb _ (label (r .source)) wb s a b k m o))
         (λ _. cond-flow-sim R (not (overlaps box (q .view))) (λ _. goes (say-sim hereA hereB culledReference (G .culled-reference hereA) s tt a b k m o))
         (λ _. cond-flow-sim R (isSubpixel size) (λ i. goes (say-sim hereA hereB (skippedMember (sourceIsDegenerate sb) box) (G .skipped-member d ta n r sb x y p h e eb x< y< i) s tt a b k m o))
-        (λ _. cond-flow-sim R (shouldCollapseReference (size .width) (size .height) 1 u d false) (λ _. goes (load-sim hereA hereB (label (r .source)) box s a b k m o))
+        (λ _. cond-flow-sim R (collapses (collapseTest (size .width) (size .height) 1 u d false)) (λ _. goes (load-sim hereA hereB _ (label (r .source)) box s a b k m o))
         (λ _. halt-with-member-sim x y x< y< (label (r .source)) box (hv x y x< y< s a b k m o)))))
 
     pub column-sim : (u x : ℕ) → x < r .grid .columns → KeepsFlow R (columnStep enterA emitA S cells q va d ta r p sb wb u x) (columnStep enterB emitB S cells q vb d tb r p sb wb u x)
@@ -210,30 +213,30 @@ module _ {PA PB A B : Type 0} (enterA : Step → PA → PA) (enterB : Step → P
     unfolding visitCountedReference
     counted-sim u s a b k m o =
         let size = referenceScreenSize wb (q .zoom) (sourceIsDegenerate sb) in
-        cond-sim R (shouldCollapseReference (size .width) (size .height) (gridCount (r .grid)) (u .units) d false)
-        (λ _. load-sim ta tb (label (r .source)) wb s a b (u .counts) (u .marks) o)
+        cond-sim R (collapses (collapseTest (size .width) (size .height) (gridCount (r .grid)) (u .units) d false))
+        (λ _. load-sim ta tb _ (label (r .source)) wb s a b (u .counts) (u .marks) o)
         (λ _. ending-sim R (each-sim R _ _ (r .grid .columns) (column-sim (sourceUnits (u .units) (gridCount (r .grid)))) s a b (u .counts) (u .marks) o))
 
   module _ (d : ℕ) (va : VisitSource enterA emitA S cells q) (vb : VisitSource enterB emitB S cells q) (ta : PA) (tb : PB) (n : ℕ) (p : Placement) (h : Stands d ta (Reference n) p)
       (hv : (r : PreparedReference) → S .reference n ≡ some r → KeepsMembers va vb ta tb r p) where
     boxed-sim : (r : PreparedReference) → S .reference n ≡ some r → (sb : WorldBBox) → r .«source_bbox» ≡ boxed sb → (o : Bounds)
-        → Keeps R (visitBoxedReference enterA emitA S cells q va d ta n r p sb o) (visitBoxedReference enterB emitB S cells q vb d tb n r p sb o)
+        → Keeps R (visitBoxedReference enterA emitA S cells q va d ta r p sb o) (visitBoxedReference enterB emitB S cells q vb d tb r p sb o)
     unfolding visitBoxedReference
     boxed-sim r e sb eb Absent s a b k m i = related i
     boxed-sim r e sb eb (Box x₀ y₀ x₁ y₁) s a b k m i =
         let wb = transformBbox p (bbox x₀ y₀ x₁ y₁) in
         cond-sim R (not (overlaps wb (q .view))) (λ _. say-sim ta tb culledReference (G .culled-reference ta) s tt a b k m i)
-        (λ _. cond-sim R (detailCellsFull s) (λ _. load-sim ta tb (label (r .source)) wb s a b k m i)
-        (λ _. cond-sim R (detailBudgetExhausted q s) (λ _. load-sim ta tb (label (r .source)) wb s a b k m i)
-        (λ _. counted-sim d va vb ta tb n r p sb wb h e eb (hv r e) (referenceDrawUnits S cells d n k m) s a b k m i)))
+        (λ _. cond-sim R (detailCellsFull s) (λ _. load-sim ta tb _ (label (r .source)) wb s a b k m i)
+        (λ _. cond-sim R (detailBudgetExhausted q s) (λ _. load-sim ta tb _ (label (r .source)) wb s a b k m i)
+        (λ _. counted-sim d va vb ta tb n r p sb wb h e eb (hv r e) (referenceDrawUnits S cells d r k m) s a b k m i)))
 
     sourced-sim : (r : PreparedReference) → S .reference n ≡ some r → (o : Bounds) → r .«source_bbox» ≡ o
-        → Keeps R (visitSourcedReference enterA emitA S cells q va d ta n r p o) (visitSourcedReference enterB emitB S cells q vb d tb n r p o)
+        → Keeps R (visitSourcedReference enterA emitA S cells q va d ta r p o) (visitSourcedReference enterB emitB S cells q vb d tb r p o)
     unfolding visitSourcedReference boxed
     sourced-sim r e Absent eb s a b k m i = related i
     sourced-sim r e (Box x₀ y₀ x₁ y₁) eb s a b k m i = boxed-sim r e (bbox x₀ y₀ x₁ y₁) eb (referenceBbox (r .grid) (bbox x₀ y₀ x₁ y₁)) s a b k m i
 
-    found-reference-sim : (o : Option PreparedReference) → S .reference n ≡ o → Keeps R (visitFoundReference enterA emitA S cells q va d ta n p o) (visitFoundReference enterB emitB S cells q vb d tb n p o)
+    found-reference-sim : (o : Option PreparedReference) → S .reference n ≡ o → Keeps R (visitFoundReference enterA emitA S cells q va d ta p o) (visitFoundReference enterB emitB S cells q vb d tb p o)
     unfolding visitFoundReference
     found-reference-sim none e s a b k m i = related i
     found-reference-sim (some r) e s a b k m i = sourced-sim r e (r .«source_bbox») refl s a b k m i
@@ -257,7 +260,7 @@ module _ {PA PB A B : Type 0} (enterA : Step → PA → PA) (enterB : Step → P
   root-box-sim : (ta : PA) (tb : PB) (o : Bounds) → Keeps R (loadRootBox enterA emitA S cells q ta o) (loadRootBox enterB emitB S cells q tb o)
   unfolding loadRootBox
   root-box-sim ta tb Absent s a b k m r = related r
-  root-box-sim ta tb (Box x₀ y₀ x₁ y₁) s a b k m r = cond-sim R (overlaps (bbox x₀ y₀ x₁ y₁) (q .view)) (λ _. load-sim ta tb (q .root) (bbox x₀ y₀ x₁ y₁) s a b k m r) (λ _. related r)
+  root-box-sim ta tb (Box x₀ y₀ x₁ y₁) s a b k m r = cond-sim R (overlaps (bbox x₀ y₀ x₁ y₁) (q .view)) (λ _. load-sim ta tb _ (q .root) (bbox x₀ y₀ x₁ y₁) s a b k m r) (λ _. related r)
 
   load-root-sim : (ta : PA) (tb : PB) (o : Option CellRecord) → Keeps R (loadRoot enterA emitA S cells q ta o) (loadRoot enterB emitB S cells q tb o)
   unfolding loadRoot

@@ -1,4 +1,4 @@
--- `plan_vectors::lend` is safe. The lengths of its buffers are reply by a law, not counted out.
+-- `plan_vectors::lend` is safe. The lengths of its buffers are stated by a law, not counted out.
 -- Assumes nothing.
 use Prim.Native.Nat.{ℕ}
 use mathlib.Core.Path.{sym}

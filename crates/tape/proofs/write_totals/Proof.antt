@@ -1,26 +1,36 @@
--- `tape::write_totals` meets its contract: the record is written if it fits.
+-- `tape::write_totals` meets its contract: the record is written if it fits, and the tape's end grows in any case.
 -- Assumes nothing.
 use denote.Ref.{now}
-use Rattle.plan_rules.specs.Event.{totals}
+use Rattle.plan_rules.specs.Event.{totals, fieldsOf}
 use Rattle.tape.proofs.Room.{within, written, left-alone}
 use borrow.Author.Needs.{needs}
 use Rattle.tape.proofs.write_totals.Statement.{statement}
 use Rattle.tape.proofs.write_totals.Tie as tie
 
+does-not-fit : tie.Need-returns
+does-not-fit c =
+    let after-has-room = c .before in
+    let after-end = after-has-room .before in
+    let a = after-end .before .before .args in
+    (left-alone (fieldsOf (totals (a .plan))) (now (a .out)) (a .at) (after-has-room .has-room .ensures) (c .if1 .taken), after-end .saturating-add .ensures)
+
 room : tie.Need-put-totals-requires
 room c κs =
-    let a = c .before .before .before .before .args in
-    within (totals (a .plan)) (now (a .out)) (a .at) (c .before .before .has-room .ensures) (c .before .if1 .taken)
+    let after-if1 = c .before in
+    let after-has-room = after-if1 .before in
+    let a = after-has-room .before .before .before .args in
+    within (fieldsOf (totals (a .plan))) (now (a .out)) (a .at) (after-has-room .has-room .ensures) (after-if1 .if1 .left)
 
-fits : tie.Need-returns
+fits : tie.Need-returns-2
 fits c =
-    let a = c .before .before .before .before .before .before .before .args in
-    written (totals (a .plan)) (now (a .out)) (a .at) (c .before .before .before .before .before .has-room .ensures) (c .before .before .before .before .if1 .taken) (c .before .before .put-totals .ensures)
-
-does-not-fit : tie.Need-returns-2
-does-not-fit c =
-    let a = c .before .before .before .args in
-    left-alone (totals (a .plan)) (now (a .out)) (a .at) (c .before .has-room .ensures) (c .if1 .left)
+    let after-put = c .before .before in
+    let after-if1 = after-put .before .before in
+    let after-has-room = after-if1 .before in
+    let after-end = after-has-room .before in
+    let a = after-end .before .before .args in
+    (written (fieldsOf (totals (a .plan))) (now (a .out)) (a .at) (after-has-room .has-room .ensures) (after-if1 .if1 .left) (after-put .put-totals .ensures), after-end .saturating-add .ensures)
 
 pub write-totals-spec : {M : Type 1} → statement M
-write-totals-spec = tie.close (tie.spec (λ c κs. search needs) room (λ c. search needs) fits does-not-fit)
+write-totals-spec =
+    tie.close
+    (tie.spec (λ c. search needs) (λ c κs. search needs) (λ c κs. search needs) does-not-fit room (λ c. search needs) fits)

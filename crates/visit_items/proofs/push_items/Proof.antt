@@ -1,12 +1,10 @@
 -- `visit_items::push_items` meets its contract: each way out by its law in `Body`.
 -- Assumes nothing.
-use mathlib.Core.Path.{_≡_, ap, _∙_}
+use mathlib.Core.Path.{_≡_, refl, _∙_}
 use mathlib.Core.List.{List}
 use Prim.Native.Nat.{ℕ}
 use lib.ListN.{length}
 use denote.Ref.{now}
-use Rattle.records.specs.declared.PreparedCell.{PreparedCell}
-use Rattle.abstract_sheet.specs.Sheet.{cellRecordAt}
 use Rattle.plan_rules.specs.World.{World, world}
 use Rattle.visit_items.proofs.Body
 use borrow.Author.Needs.{needs}
@@ -16,39 +14,39 @@ use Rattle.visit_items.proofs.push_items.Tie as tie
 -- ---- the worlds that the three loops leave, and the way back to each
 
 abbrev listed : tie.After-push-geometries → List ℕ → List ℕ → World (List ℕ)
-listed g k m = world (g .push-geometries .result .plan) (g .push-geometries .last .1 .1 .1 .1 .0) k m
+listed g k m = world (g .push-geometries .result .plan) (g .push-geometries .last .1 .1 .1 .0) k m
 
 abbrev to-geometries : tie.Else1 → tie.After-push-geometries
 to-geometries i = i .before .before .before .before .before
 
 abbrev listed-texts : tie.After-push-texts → List ℕ → List ℕ → World (List ℕ)
-listed-texts t k m = world (t .push-texts .result .plan) (t .push-texts .last .1 .1 .1 .1 .0) k m
+listed-texts t k m = world (t .push-texts .result .plan) (t .push-texts .last .1 .1 .1 .0) k m
 
 abbrev to-texts : tie.Else2 → tie.After-push-texts
 to-texts j = j .before .before .before .before .before
 
 abbrev listed-nodes : tie.After-push-nodes → List ℕ → List ℕ → World (List ℕ)
-listed-nodes n k m = world (n .push-nodes .result .plan) (n .push-nodes .last .1 .1 .1 .1 .0) k m
+listed-nodes n k m = world (n .push-nodes .result .plan) (n .push-nodes .last .1 .1 .1 .0) k m
 
-same-length : (n : tie.After-push-nodes) → length (n .push-nodes .last .1 .1 .1 .1 .0) ≡ length (now (to-geometries (to-texts (n .before .before) .before .before) .before .before .before .before .before .args .out))
+same-length : (n : tie.After-push-nodes) → length (n .push-nodes .last .1 .1 .1 .0) ≡ length (now (to-geometries (to-texts (n .before .before) .before .before) .before .before .before .before .before .args .out))
 same-length n =
     let t = to-texts (n .before .before) in
     let g = to-geometries (t .before .before) in
-    n .push-nodes .kept .1 .1 .1 .1 .0 ∙ t .push-texts .kept .1 .1 .1 .1 .0 ∙ g .push-geometries .kept .1 .1 .1 .1 .0
+    n .push-nodes .kept .1 .1 .1 .0 ∙ t .push-texts .kept .1 .1 .1 .0 ∙ g .push-geometries .kept .1 .1 .1 .0
 
 -- ---- the ways out
 
 geometries-halt : tie.Need-returns
 geometries-halt c =
     let g = c .before .before .before .before .before in
-    λ cells visit k m. Body.geometries-halt _ _ _ _ _ _ _ visit _ (g .push-geometries .result .whole) (listed g k m) (g .push-geometries .ensures cells k m) (c .if1 .taken)
+    λ visit k m. Body.geometries-halt _ _ _ _ _ _ _ visit _ (g .push-geometries .result .whole) (listed g k m) (g .push-geometries .ensures k m) (c .if1 .taken)
 
 texts-halt : tie.Need-returns-2
 texts-halt c =
     let t = c .before .before .before .before .before in
     let i = t .before .before in
     let g = to-geometries i in
-    λ cells visit k m. Body.texts-halt _ _ _ _ _ _ _ visit _ (g .push-geometries .result .whole) (listed g k m) (g .push-geometries .ensures cells k m) (i .if1 .left) (t .push-texts .result .whole) (listed-texts t k m) (t .push-texts .ensures cells k m) (c .if2 .taken)
+    λ visit k m. Body.texts-halt _ _ _ _ _ _ _ visit _ (g .push-geometries .result .whole) (listed g k m) (g .push-geometries .ensures k m) (i .if1 .left) (t .push-texts .result .whole) (listed-texts t k m) (t .push-texts .ensures k m) (c .if2 .taken)
 
 nodes-halt : tie.Need-returns-3
 nodes-halt c =
@@ -57,21 +55,20 @@ nodes-halt c =
     let t = to-texts j in
     let i = t .before .before in
     let g = to-geometries i in
-    λ cells visit k m. Body.nodes-halt _ _ _ _ _ _ _ visit _ (g .push-geometries .result .whole) (listed g k m) (g .push-geometries .ensures cells k m) (i .if1 .left) (t .push-texts .result .whole) (listed-texts t k m) (t .push-texts .ensures cells k m) (j .if2 .left) (n .push-nodes .result .whole) (listed-nodes n k m) (n .push-nodes .ensures cells k m) (c .if3 .taken)
+    λ visit k m. Body.nodes-halt _ _ _ _ _ _ _ visit _ (g .push-geometries .result .whole) (listed g k m) (g .push-geometries .ensures k m) (i .if1 .left) (t .push-texts .result .whole) (listed-texts t k m) (t .push-texts .ensures k m) (j .if2 .left) (n .push-nodes .result .whole) (listed-nodes n k m) (n .push-nodes .ensures k m) (c .if3 .taken)
 
 all-listed : tie.Need-returns-4
-unfolding cellRecordAt
 all-listed c =
-    let n = c .before .before .before .before .before .before in
+    let n = c .before .before .before .before .before in
     let j = n .before .before in
     let t = to-texts j in
     let i = t .before .before in
     let g = to-geometries i in
-    λ cells visit k m. Body.all-listed _ _ _ _ _ _ _ visit _ (g .push-geometries .result .whole) (listed g k m) (g .push-geometries .ensures cells k m) (i .if1 .left) (t .push-texts .result .whole) (listed-texts t k m) (t .push-texts .ensures cells k m) (j .if2 .left) (n .push-nodes .result .whole) (listed-nodes n k m) (n .push-nodes .ensures cells k m) (c .before .if3 .left) _ (ap (λ (r : PreparedCell). r .references) (c .cell-at .ensures))
+    λ visit k m. Body.all-listed _ _ _ _ _ _ _ visit _ (g .push-geometries .result .whole) (listed g k m) (g .push-geometries .ensures k m) (i .if1 .left) (t .push-texts .result .whole) (listed-texts t k m) (t .push-texts .ensures k m) (j .if2 .left) (n .push-nodes .result .whole) (listed-nodes n k m) (n .push-nodes .ensures k m) (c .if3 .left) _ refl
 
 pub push-items-spec : {M : Type 1} → statement M
 push-items-spec =
     tie.close
     (tie.spec (λ c κs. search needs) (λ c. search needs) geometries-halt (λ c κs. search needs) (λ c. search needs) texts-halt
     (λ c κs. search needs) (λ c. same-length (c .before .before .before .before .before)) nodes-halt
-    (λ c κs. search needs) (λ c. same-length (c .before .before .before .before .before .before)) all-listed)
+    (λ c. same-length (c .before .before .before .before .before)) all-listed)

@@ -22,10 +22,11 @@ pub +visit-cell+visit-reference+visit-source-spec : {M : Type 1} → statement M
 +visit-cell+visit-reference+visit-source-spec =
     close μ-visit-cell μ-visit-reference μ-visit-source
     (λ t. visit-cell-lts.spec (visit-cell-claims t) (visit-cell-at t) visit-cell.Post VisitCell.Inv-loop VisitCell.μ-loop
-    (λ c κs. search needs)  -- find-requires
+    (λ c κs. search needs)  -- look-up-requires
     (λ c. search needs)  -- enum-known-at
     (λ c. search needs)  -- enum-told
     (VisitCell.missing t)
+    (λ c κs. search needs)  -- cell-at-requires
     (λ c κs. search needs)  -- enter-cell-requires
     (λ c. search needs)  -- same-length
     (λ c. search needs)  -- same-length-2
@@ -33,7 +34,7 @@ pub +visit-cell+visit-reference+visit-source-spec : {M : Type 1} → statement M
     (λ c κs. search needs)  -- push-items-requires
     (VisitCell.loop-starts t)
     (λ c κs. search needs)  -- detail-budget-exhausted-requires
-    (λ c κs. search needs)  -- add-load-if-boxed-requires
+    (λ c κs. search needs)  -- load-cell-requires
     (λ c κs. search needs)  -- stack-remove-requires
     (VisitCell.exhausted-keeps-length t)
     (λ c. search needs)  -- same-length-4
@@ -50,7 +51,7 @@ pub +visit-cell+visit-reference+visit-source-spec : {M : Type 1} → statement M
     (λ c. search needs)  -- same-length-8
     (VisitCell.ended t))
     (λ t. visit-reference-lts.spec (visit-reference-claims t) (visit-reference-at t) visit-reference.Post VisitReference.Inv-loop VisitReference.μ-loop
-    (λ c κs. search needs)  -- find-requires
+    (λ c κs. search needs)  -- look-up-requires
     (λ c. search needs)  -- enum-known-at
     (λ c. search needs)  -- enum-told
     (VisitReference.missing t)
@@ -60,10 +61,12 @@ pub +visit-cell+visit-reference+visit-source-spec : {M : Type 1} → statement M
     (VisitReference.over t)
     (λ c κs. search needs)  -- grid-count-requires
     (λ c κs. search needs)  -- reference-draw-units-requires
-    (λ c κs. search needs)  -- collapses-requires
+    (λ c κs. search needs)  -- reference-test-requires
     (λ c κs. search needs)  -- label-requires
+    (λ c κs. search needs)  -- collapses-requires
+    (λ c κs. search needs)  -- collapse-reason-requires
     (λ c κs. search needs)  -- add-load-requires
-    (λ c. search needs)  -- same-length-2
+    (VisitReference.collapsed-out t)
     (λ c. search needs)  -- same-length-3
     (λ c. search needs)  -- same-length-4
     (VisitReference.collapsed t)
@@ -72,7 +75,6 @@ pub +visit-cell+visit-reference+visit-source-spec : {M : Type 1} → statement M
     (VisitReference.member-is-there t)
     (VisitReference.depth-is-left t)
     (VisitReference.source-falls t)
-    (λ c κs. search needs)  -- label-requires-2
     (λ c κs. search needs)  -- add-load-requires-2
     (VisitReference.source-halts-out t)
     (VisitReference.source-halts-counts t)

@@ -1,4 +1,4 @@
--- `questions::finite::finite_bits` meets its contract: a float is finite where its exponent field is not all ones.
+-- `check_record::finite::finite_bits` meets its contract: a float is finite where its exponent field is not all ones.
 -- Assumes nothing.
 use mathlib.Core.Path.{sym}
 use Rattle.check_record.proofs.Facts.Finite.{pattern-finite}

@@ -1,4 +1,4 @@
--- `questions::finite::floats_from` meets its contract, kind by kind.
+-- `check_record::finite::floats_from` meets its contract, kind by kind.
 -- Assumes nothing.
 use borrow.Author.Tests.{ne-eqb}
 use Rattle.check_record.specs.Floats.{floatsFrom}

@@ -1,4 +1,4 @@
--- `questions::finite::floats_ok` meets its contract. A record's floats lie within it, by its length.
+-- `check_record::finite::floats_ok` meets its contract. A record's floats lie within it, by its length.
 -- Assumes nothing.
 use Prim.Native.Nat.{ℕ, _+_, _*_, _≤_}
 use mathlib.Core.List.{List}

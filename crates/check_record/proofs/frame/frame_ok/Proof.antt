@@ -1,4 +1,4 @@
--- `questions::frame::frame_ok` meets its contract: it answers true just where the record lies whole within the sheet.
+-- `check_record::frame::frame_ok` meets its contract: it answers true just where the record lies whole within the sheet.
 -- Assumes nothing.
 use Prim.Native.Nat.{ℕ}
 use mathlib.Core.Path.{_≡_, refl, sym}

@@ -1,4 +1,4 @@
--- `questions::shape::length_ok` meets its contract, kind by kind.
+-- `check_record::shape::length_ok` meets its contract, kind by kind.
 -- Assumes nothing.
 use borrow.Author.Tests.{ne-eqb}
 use Rattle.check_record.specs.Tests.{both}

@@ -1,4 +1,4 @@
--- `questions::shape::lists_at` meets its contract: the sum of the four counts read.
+-- `check_record::shape::lists_at` meets its contract: the sum of the four counts read.
 -- Assumes nothing.
 use Rattle.check_record.specs.Shape.{listsAt}
 use borrow.Author.Needs.{needs}

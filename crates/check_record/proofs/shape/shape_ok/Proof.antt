@@ -1,10 +1,11 @@
--- `questions::shape::shape_ok` meets its contract. A cell shorter than 56 bytes is never right, whatever its counts are.
+-- `check_record::shape::shape_ok` meets its contract. A cell shorter than its fields is never right, whatever its counts are.
 -- Assumes nothing.
 use mathlib.Core.Path.{_≡_}
 use Prim.Native.Nat.{_+_, _*_}
 use native.Mathlib.Omega.{arith}
 use denote.Ref.{now}
 use Rattle.walk.specs.Offsets.{lengthAt}
+use Rattle.records.specs.Format.{cell, endOf}
 use Rattle.check_record.proofs.Tests.{tests}
 use Rattle.check_record.specs.Shape.{listsAt, shapeOk}
 use borrow.Author.Needs.{needs}
@@ -15,7 +16,7 @@ returns : tie.Need-returns
 unfolding shapeOk
 returns c =
     let a = c .before .before .before .before .before .args in
-    let short : lengthAt (now (a .s)) (a .at) ≡ 56 + 4 * listsAt (now (a .s)) (a .at) → ⊥ = λ e. omega arith in
+    let short : lengthAt (now (a .s)) (a .at) ≡ endOf cell + 4 * listsAt (now (a .s)) (a .at) → ⊥ = λ e. omega arith in
     search (tests, ← c .before .before .before .u16-within .ensures)
 
 returns-2 : tie.Need-returns-2
@@ -33,9 +34,9 @@ shape-ok-spec =
     (λ c. search needs)
     (λ c κs. search needs)
     (λ c κs. search needs)
+    (λ c. search needs)
     returns
     (λ c κs. search needs)
-    (λ c. search needs)
     (λ c. search needs)
     (λ c. search needs)
     (λ c. search needs)

@@ -1,4 +1,4 @@
--- `questions::values::cell_ok` meets its contract: the code asks the definition's tests in its order.
+-- `check_record::values::cell_ok` meets its contract: the code asks the definition's tests in its order.
 -- Assumes nothing.
 use Rattle.check_record.specs.Tests.{both}
 use Rattle.check_record.proofs.Tests.{tests}

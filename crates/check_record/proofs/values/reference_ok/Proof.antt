@@ -1,4 +1,4 @@
--- `questions::values::reference_ok` meets its contract: what was read goes into the definition's test.
+-- `check_record::values::reference_ok` meets its contract: what was read goes into the definition's test.
 -- Assumes nothing.
 use Rattle.check_record.specs.Values.{referenceOk}
 use borrow.Author.Needs.{needs}

@@ -1,4 +1,4 @@
--- `questions::values::values_ok` meets its contract. A record's length by its kind says that the fields lie within it.
+-- `check_record::values::values_ok` meets its contract. A record's length by its kind says that the fields lie within it.
 -- Assumes nothing.
 use mathlib.Core.Path.{sym, _∙_}
 use native.Mathlib.Omega.{arith}

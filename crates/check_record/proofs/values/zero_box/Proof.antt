@@ -1,4 +1,4 @@
--- `questions::values::zero_box` meets its contract: 32 zero bytes are four fields of eight that are 0.
+-- `check_record::values::zero_box` meets its contract: 32 zero bytes are four fields of eight that are 0.
 -- Assumes nothing.
 use denote.Ref.{now}
 use Rattle.check_record.specs.Tests.{both}

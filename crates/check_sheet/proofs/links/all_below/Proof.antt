@@ -1,4 +1,4 @@
--- `sheet::links::all_below` meets its contract. The loop's invariant: what is left to test from here is the whole.
+-- `check_sheet::links::all_below` meets its contract. The loop's invariant: what is left to test from here is the whole.
 -- Assumes nothing.
 use Prim.Native.Nat.{ℕ, _+_, _*_, _≤_, _<_}
 use mathlib.Core.Path.{_≡_, refl, sym, _∙_}

@@ -1,9 +1,10 @@
--- `sheet::links::link_ok` meets its contract. A record's length by its kind says that the fields lie within it.
+-- `check_sheet::links::link_ok` meets its contract. A record's length by its kind says that the fields lie within it.
 -- Assumes nothing.
 use mathlib.Core.Path.{_≡_, sym, _∙_}
 use native.Mathlib.Omega.{arith}
 use denote.Ref.{now}
 use Rattle.walk.specs.Offsets.{lengthAt}
+use Rattle.records.specs.Format.{reference, endOf}
 use Rattle.check_record.proofs.Tests.{tests}
 use Rattle.check_record.proofs.Facts.Lengths.{shape-sized}
 use Rattle.check_sheet.specs.Links.{linkOk}
@@ -12,7 +13,7 @@ use Rattle.check_sheet.proofs.links.link_ok.Statement.{statement}
 use Rattle.check_sheet.proofs.links.link_ok.Tie as tie
 
 -- a reference's length
-long : (c : tie.Then1) → lengthAt (now (c .before .before .before .args .s)) (c .before .before .before .args .at) ≡ 122
+long : (c : tie.Then1) → lengthAt (now (c .before .before .before .args .s)) (c .before .before .before .args .at) ≡ endOf reference
 long c = shape-sized _ _ (c .before .before .before .pre .shape) .reference (sym (c .before .u16-within .ensures) ∙ c .if1 .taken)
 
 u16-within-requires-2 : tie.Need-u16-within-requires-2

@@ -1,4 +1,4 @@
--- `sheet::links::links` meets its contract. The loop's invariant: the records from here on are right, no more references were passed than bytes,
+-- `check_sheet::links::links` meets its contract. The loop's invariant: the records from here on are right, no more references were passed than bytes,
 -- and the first record from here on that names what is missing is the first of all. Assumes nothing.
 use Prim.Native.Nat.{ℕ, _+_, _-_, _≤_}
 use mathlib.Core.Path.{_≡_, refl, sym, ap, _∙_}

@@ -1,4 +1,4 @@
--- `sheet::links::lists_named` meets its contract: the four lists are asked in the definition's order, and lie within the cell.
+-- `check_sheet::links::lists_named` meets its contract: the four lists are asked in the definition's order, and lie within the cell.
 -- Assumes nothing.
 use native.Mathlib.Omega.{arith}
 use Rattle.check_record.specs.Tests.{both}

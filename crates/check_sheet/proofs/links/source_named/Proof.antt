@@ -1,4 +1,4 @@
--- `sheet::links::source_named` meets its contract, kind by kind.
+-- `check_sheet::links::source_named` meets its contract, kind by kind.
 -- Assumes nothing.
 use borrow.Author.Tests.{ne-eqb}
 use Rattle.check_sheet.specs.Links.{sourceNamed}

@@ -1,4 +1,4 @@
--- `sheet::scan::count` meets its contract, count by count.
+-- `check_sheet::scan::count` meets its contract, count by count.
 -- Assumes nothing.
 use Rattle.check_sheet.specs.Count.{counted}
 use borrow.Author.Needs.{needs}

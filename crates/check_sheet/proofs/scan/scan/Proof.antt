@@ -1,4 +1,4 @@
--- `sheet::scan::scan` meets its contract. The loop's invariant: the counts are those of the records passed,
+-- `check_sheet::scan::scan` meets its contract. The loop's invariant: the counts are those of the records passed,
 -- and the first no from here on is the first no of all. Assumes nothing.
 use Prim.Native.Nat.{ℕ, _-_}
 use mathlib.Core.Path.{_≡_, refl, sym, ap, _∙_}

@@ -1,4 +1,4 @@
--- `sheet::scan::tally` meets its contract.
+-- `check_sheet::scan::tally` meets its contract.
 -- Assumes nothing.
 use native.Mathlib.Omega.{arith}
 use borrow.Author.Tests.{eq-eqb, ne-eqb}

@@ -1,6 +1,7 @@
 -- `planner::plan` meets its contract: the sheet's own check decides questions 1 to 7, and `plan_sound` the others.
 -- Assumes nothing.
 use mathlib.Core.Path.{sym, _∙_}
+use Rattle.check_sheet.proofs.Verdict.{checked-as}
 use Rattle.plan_rules.proofs.OutcomeTheorem.{sheet-refused, sheet-sound}
 use borrow.Author.Needs.{needs}
 use Rattle.planner.proofs.entry.plan.Statement.{statement}
@@ -10,14 +11,14 @@ refused : tie.Need-returns
 refused c =
     let at-number = c .before in
     let at-check-sheet = at-number .before .before in
-    sym (sheet-refused _ _ _ _ _ _ _ (sym (at-check-sheet .check-sheet .ensures) ∙ at-number .number .given .1))
+    sym (sheet-refused _ _ _ _ _ _ _ (sym (checked-as _ _ (at-check-sheet .check-sheet .ensures)) ∙ at-number .number .given .1))
 
 sound : tie.Need-returns-2
 sound c =
     let at-plan-sound = c .before .before .before .before .before .before in
     let at-counted = at-plan-sound .before .before .before .before .before in
     let at-check-sheet = at-counted .before .before in
-    at-plan-sound .plan-sound .ensures ∙ sym (sheet-sound _ _ _ _ _ _ (sym (at-check-sheet .check-sheet .ensures) ∙ at-counted .counted .given .1))
+    at-plan-sound .plan-sound .ensures ∙ sym (sheet-sound _ _ _ _ _ _ (sym (checked-as _ _ (at-check-sheet .check-sheet .ensures)) ∙ at-counted .counted .given .1))
 
 pub plan-spec : {M : Type 1} → statement M
 plan-spec =

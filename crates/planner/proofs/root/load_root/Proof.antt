@@ -9,7 +9,8 @@ use Rattle.records.specs.declared.PreparedCell.{PreparedCell}
 use Rattle.abstract_sheet.specs.Sheet.{cells, cellRecordAt}
 use Rattle.abstract_sheet.proofs.Lookup.{item-read}
 use Rattle.plan_rules.specs.World.{world}
-use Rattle.plan_rules.specs.Push.{addLoad}
+use Rattle.plan_rules.specs.declared.Reason.the-variants.{DepthZero}
+use Rattle.plan_rules.specs.OnTape.{addLoad}
 use Rattle.plan_rules.specs.Tape.{noTag, onTape}
 use Rattle.plan_rules.proofs.Paths.Plans.{root-missing, root-unboxed, root-outside, root-loaded}
 use borrow.Author.Needs.{needs}
@@ -18,18 +19,18 @@ use Rattle.planner.proofs.root.load_root.Tie as tie
 
 missing : tie.Need-returns
 missing c =
-    let at-find = c .before .before in
-    λ n limit hidden k m. sym (root-missing noTag onTape _ _ _ tt _ (item-read cells _ _ (sym (at-find .find .ensures) ∙ c .enum-told .given .1)))
+    let at-look-up = c .before .before in
+    λ hidden k m. sym (root-missing noTag onTape _ _ _ tt _ (item-read cells _ _ (sym (at-look-up .look-up .ensures) ∙ c .enum-told .given .1)))
 
 unboxed : tie.Need-returns-2
 unfolding cellRecordAt
 unboxed c =
     let at-cell-at = c .before .before in
     let at-at = at-cell-at .before .before in
-    let at-find = at-at .before .before in
-    let there = item-read cells _ _ (sym (at-find .find .ensures) ∙ at-at .at .given .1) in
+    let at-look-up = at-at .before .before in
+    let there = item-read cells _ _ (sym (at-look-up .look-up .ensures) ∙ at-at .at .given .1) in
     let box = sym (ap (λ (r : PreparedCell). r .bbox) (at-cell-at .cell-at .ensures)) ∙ c .enum-told2 .given .1 in
-    λ n limit hidden k m. sym (root-unboxed noTag onTape _ _ _ tt _ _ there box)
+    λ hidden k m. sym (root-unboxed noTag onTape _ _ _ tt _ _ there box)
 
 outside : tie.Need-returns-3
 unfolding cellRecordAt
@@ -39,12 +40,12 @@ outside c =
     let at-bounds = at-new .before .before in
     let at-cell-at = at-bounds .before .before in
     let at-at = at-cell-at .before .before in
-    let at-find = at-at .before .before in
-    let a = at-find .before .before .before .args in
-    let there = item-read cells _ _ (sym (at-find .find .ensures) ∙ at-at .at .given .1) in
+    let at-look-up = at-at .before .before in
+    let a = at-look-up .before .before .before .args in
+    let there = item-read cells _ _ (sym (at-look-up .look-up .ensures) ∙ at-at .at .given .1) in
     let box = sym (ap (λ (r : PreparedCell). r .bbox) (at-cell-at .cell-at .ensures)) ∙ at-bounds .bounds .given .1 in
-    let unseen = sym (ap (λ (b : WorldBBox). overlaps b (a .query .view)) (at-new .new .ensures)) ∙ sym (at-overlaps .overlaps .ensures) ∙ not-true _ (c .if1 .taken) in
-    λ n limit hidden k m. sym (root-outside noTag onTape _ _ _ tt _ _ there _ _ _ _ box unseen)
+    let unseen = sym (ap (λ (b : WorldBBox). overlaps b (a .fixed .options .view)) (at-new .new .ensures)) ∙ sym (at-overlaps .overlaps .ensures) ∙ not-true _ (c .if1 .taken) in
+    λ hidden k m. sym (root-outside noTag onTape _ _ _ tt _ _ there _ _ _ _ box unseen)
 
 loaded : tie.Need-returns-4
 unfolding cellRecordAt
@@ -56,14 +57,14 @@ loaded c =
     let at-bounds = at-new .before .before in
     let at-cell-at = at-bounds .before .before in
     let at-at = at-cell-at .before .before in
-    let at-find = at-at .before .before in
-    let a = at-find .before .before .before .args in
-    let there = item-read cells _ _ (sym (at-find .find .ensures) ∙ at-at .at .given .1) in
+    let at-look-up = at-at .before .before in
+    let a = at-look-up .before .before .before .args in
+    let there = item-read cells _ _ (sym (at-look-up .look-up .ensures) ∙ at-at .at .given .1) in
     let box = sym (ap (λ (r : PreparedCell). r .bbox) (at-cell-at .cell-at .ensures)) ∙ at-bounds .bounds .given .1 in
-    let seen = sym (ap (λ (b : WorldBBox). overlaps b (a .query .view)) (at-new .new .ensures)) ∙ sym (at-overlaps .overlaps .ensures) ∙ not-false _ (at-if1 .if1 .left) in
-    λ n limit hidden k m.
+    let seen = sym (ap (λ (b : WorldBBox). overlaps b (a .fixed .options .view)) (at-new .new .ensures)) ∙ sym (at-overlaps .overlaps .ensures) ∙ not-false _ (at-if1 .if1 .left) in
+    λ hidden k m.
     at-add-load .add-load .ensures k m
-    ∙ ap (λ (b : WorldBBox). addLoad noTag onTape tt (a .query .root) b (world (a .plan) (now (a .out)) k m)) (at-new .new .ensures)
+    ∙ ap (λ (b : WorldBBox). addLoad DepthZero (a .fixed .options .root) b (world (a .plan) (now (a .out)) k m)) (at-new .new .ensures)
     ∙ sym (root-loaded noTag onTape _ _ _ tt _ _ there _ _ _ _ box seen)
 
 pub load-root-spec : {M : Type 1} → statement M

@@ -6,9 +6,8 @@ use native.Mathlib.Omega.{arith}
 use denote.Ref.{now}
 use Rattle.geometry.specs.declared.placement.Placement.{Placement}
 use Rattle.abstract_sheet.specs.Sheet.{sheetOf}
-use Rattle.plan_rules.specs.World.{queryOf, world}
-use Rattle.plan_rules.specs.Visit.{visitCell}
-use Rattle.plan_rules.specs.Plan.{visitRoot}
+use Rattle.plan_rules.specs.World.{world}
+use Rattle.plan_rules.specs.OnTape.{visitCell, visitRoot}
 use Rattle.plan_rules.specs.Tape.{noTag, onTape}
 use Rattle.plan_rules.proofs.Paths.Plans.{root-visited}
 use borrow.Author.Needs.{needs}
@@ -21,9 +20,9 @@ loaded c =
     let at-if1 = at-load-root .before .before in
     let a = at-if1 .before .before .before .before .before .before .before .args in
     let w = world (a .plan) (now (a .out)) (now (a .counts)) (now (a .marks)) in
-    let nought : a .query .depth ≡ 0 = omega (arith, at-if1 .if1 .taken) in
-    at-load-root .load-root .ensures (a .cells) (a .object-limit) (now (a .hidden)) (now (a .counts)) (now (a .marks))
-    ∙ sym (ap (λ (d : ℕ). visitRoot noTag onTape (sheetOf (now (a .sheet))) (a .cells) (queryOf (a .query) (now (a .hidden)) (a .object-limit)) d tt w) nought)
+    let nought : a .fixed .options .depth ≡ 0 = omega (arith, at-if1 .if1 .taken) in
+    at-load-root .load-root .ensures (now (a .hidden)) (now (a .counts)) (now (a .marks))
+    ∙ sym (ap (λ (d : ℕ). visitRoot (sheetOf (now (a .sheet))) (a .fixed) (now (a .hidden)) d w) nought)
 
 visited : tie.Need-returns-2
 visited c =
@@ -33,7 +32,7 @@ visited c =
     let a = at-if1 .before .before .before .before .before .before .before .args in
     let w = world (a .plan) (now (a .out)) (now (a .counts)) (now (a .marks)) in
     at-visit-cell .visit-cell .ensures
-    ∙ ap (λ (p : Placement). visitCell noTag onTape (sheetOf (now (a .sheet))) (a .cells) (queryOf (a .query) (now (a .hidden)) (a .object-limit)) (a .query .depth) tt (a .query .root) p w) (at-identity .identity .ensures)
+    ∙ ap (λ (p : Placement). visitCell (sheetOf (now (a .sheet))) (a .fixed) (now (a .hidden)) (a .fixed .options .depth) (a .fixed .options .root) p w) (at-identity .identity .ensures)
     ∙ sym (root-visited noTag onTape _ _ _ tt _ _ (omega (arith, at-if1 .if1 .left)))
 
 pub visit-root-spec : {M : Type 1} → statement M

@@ -9,9 +9,7 @@ use Rattle.pushes.proofs.events.list_text.Tie as tie
 
 returns : tie.Need-returns
 unfolding say after _⊞_ onTape
-returns c = λ k m. simp (c .saturating-add3 .ensures, c .before .saturating-add2 .ensures, c .before .before .saturating-add .ensures, c .before .before .before .before .before .write-text .ensures)
+returns c = λ k m. simp (c .saturating-add2 .ensures, c .before .saturating-add .ensures, c .before .before .before .before .write-text .ensures .1, c .before .before .before .before .write-text .ensures .0)
 
 pub list-text-spec : {M : Type 1} → statement M
-list-text-spec =
-    tie.close
-    (tie.spec (λ c κs. search needs) (λ c κs. search needs) (λ c κs. search needs) (λ c κs. search needs) (λ c. search needs) returns)
+list-text-spec = tie.close (tie.spec (λ c κs. search needs) (λ c κs. search needs) (λ c κs. search needs) (λ c. search needs) returns)

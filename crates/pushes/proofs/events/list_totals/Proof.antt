@@ -9,7 +9,7 @@ use Rattle.pushes.proofs.events.list_totals.Tie as tie
 
 returns : tie.Need-returns
 unfolding say after _⊞_ onTape
-returns c = λ k m. simp (c .saturating-add .ensures, c .before .before .before .write-totals .ensures)
+returns c = λ k m. simp (c .before .before .write-totals .ensures .1, c .before .before .write-totals .ensures .0)
 
 pub list-totals-spec : {M : Type 1} → statement M
-list-totals-spec = tie.close (tie.spec (λ c κs. search needs) (λ c κs. search needs) (λ c. search needs) returns)
+list-totals-spec = tie.close (tie.spec (λ c κs. search needs) (λ c. search needs) returns)

@@ -13,8 +13,10 @@ use Rattle.geometry.specs.Bbox.{transformBbox, overlaps}
 use Rattle.geometry.specs.Screen.{screenSize, isSubpixel, isDenseBatch}
 use Rattle.abstract_sheet.specs.Sheet.{sheetOf, geometries}
 use Rattle.abstract_sheet.proofs.Lookup.{item-read}
-use Rattle.plan_rules.specs.World.{Query, queryOf, hides, detailBudgetExhausted, World, world}
-use Rattle.plan_rules.specs.Push.{noLabel, addLoad}
+use Rattle.plan_rules.specs.World.{Query, hides, detailBudgetExhausted, World, world}
+use Rattle.plan_rules.specs.declared.Reason.{Reason}
+use Rattle.records.specs.Sources.{noLabel}
+use Rattle.plan_rules.specs.OnTape.{fixedQuery, addLoad}
 use Rattle.plan_rules.specs.Tape.{noTag, onTape}
 use Rattle.plan_rules.proofs.Paths.Pushes.{geometry-missing, geometry-hidden, geometry-culled, geometry-skipped, geometry-dense, geometry-exhausted, geometry-listed}
 use borrow.Author.Needs.{needs}
@@ -28,7 +30,7 @@ abbrev start : tie.After-geometry-at → tie.Start
 start c = c .before .before .before .before .before .before .before .before
 
 abbrev query : tie.After-geometry-at → Query
-query c = queryOf (start c .args .query) (now (start c .args .hidden)) (start c .args .object-limit)
+query c = fixedQuery (start c .args .fixed) (now (start c .args .hidden))
 
 abbrev entered : tie.After-geometry-at → List ℕ → List ℕ → World (List ℕ)
 entered c k m = world (start c .args .plan) (now (start c .args .out)) k m
@@ -39,10 +41,10 @@ placed c = transformBbox (start c .args .transform) (c .geometry-at .result .bbo
 there : (c : tie.After-geometry-at) → sheetOf (now (start c .args .sheet)) .geometry (start c .args .number) ≡ some (c .geometry-at .result)
 there c =
     let at-at = c .before .before in
-    item-read geometries _ _ (sym (at-at .before .before .find .ensures) ∙ at-at .at .given .1) ∙ ap some (sym (c .geometry-at .ensures))
+    item-read geometries _ _ (sym (at-at .before .before .look-up .ensures) ∙ at-at .at .given .1) ∙ ap some (sym (c .geometry-at .ensures))
 
 asked-hidden : (c : tie.After-is-hidden) → hides (query (c .before)) (c .before .geometry-at .result .layer) (c .before .geometry-at .result .«data_type») ≡ c .is-hidden .result
-asked-hidden c = sym (c .is-hidden .ensures (start (c .before) .args .query) (start (c .before) .args .object-limit))
+asked-hidden c = sym (c .is-hidden .ensures (start (c .before) .args .fixed))
 
 -- the batch is shown
 abbrev shown-batch : tie.Else1 → tie.After-geometry-at
@@ -92,16 +94,16 @@ sparse c = asked-dense (c .before) ∙ c .if4 .left
 asked-budget : (c : tie.After-detail-budget-exhausted) → let x = seen-batch (in-view (not-small (c .before))) in detailBudgetExhausted (query x) (start x .args .plan) ≡ c .detail-budget-exhausted .result
 asked-budget c =
     let a = start (seen-batch (in-view (not-small (c .before)))) .args in
-    sym (c .detail-budget-exhausted .ensures (a .query) (now (a .hidden)))
+    sym (c .detail-budget-exhausted .ensures (now (a .hidden)))
 
 -- a proxy of the code's box is one of the placed box
-proxied : (c : tie.Else2) (k m : List ℕ) → addLoad noTag onTape tt noLabel (c .before .before .transform-bbox .result) (entered (seen-batch c) k m) ≡ addLoad noTag onTape tt noLabel (placed (seen-batch c)) (entered (seen-batch c) k m)
-proxied c k m = ap (λ (b : WorldBBox). addLoad noTag onTape tt noLabel b (entered (seen-batch c) k m)) (boxed c)
+proxied : (c : tie.Else2) (y : Reason) (k m : List ℕ) → addLoad y noLabel (c .before .before .transform-bbox .result) (entered (seen-batch c) k m) ≡ addLoad y noLabel (placed (seen-batch c)) (entered (seen-batch c) k m)
+proxied c y k m = ap (λ (b : WorldBBox). addLoad y noLabel b (entered (seen-batch c) k m)) (boxed c)
 
 -- ---- the ways out
 
 missing : tie.Need-returns
-missing c = λ k m. sym (geometry-missing noTag onTape _ _ tt _ _ _ (item-read geometries _ _ (sym (c .before .before .find .ensures) ∙ c .enum-told .given .1)))
+missing c = λ k m. sym (geometry-missing noTag onTape _ _ tt _ _ _ (item-read geometries _ _ (sym (c .before .before .look-up .ensures) ∙ c .enum-told .given .1)))
 
 hidden : tie.Need-returns-2
 hidden c = λ k m. sym (geometry-hidden noTag onTape _ _ tt _ _ _ _ (there (c .before .before)) (asked-hidden (c .before) ∙ c .if1 .taken))
@@ -125,7 +127,7 @@ dense c =
     let e3 = asked .before in
     let e2 = in-view e3 in
     λ k m.
-    added .add-load .ensures k m ∙ proxied e2 k m
+    added .add-load .ensures k m ∙ proxied e2 _ k m
     ∙ sym (geometry-dense noTag onTape _ _ tt _ _ _ _ (there (seen-batch e2)) (shown (e2 .before .before .before)) (seen e2) (large e3) (asked-dense asked ∙ added .before .before .if4 .taken))
 
 exhausted : tie.Need-returns-6
@@ -136,7 +138,7 @@ exhausted c =
     let e3 = not-small e4 in
     let e2 = in-view e3 in
     λ k m.
-    added .add-load2 .ensures k m ∙ proxied e2 k m
+    added .add-load2 .ensures k m ∙ proxied e2 _ k m
     ∙ sym (geometry-exhausted noTag onTape _ _ tt _ _ _ _ (there (seen-batch e2)) (shown (e2 .before .before .before)) (seen e2) (large e3) (sparse e4) (asked-budget asked ∙ added .before .before .if5 .taken))
 
 listed : tie.Need-returns-7

@@ -5,7 +5,8 @@ use denote.Ref.{now}
 use Rattle.records.specs.declared.PreparedNode.{PreparedNode}
 use Rattle.abstract_sheet.specs.Sheet.{nodeRecordAt, nodes}
 use Rattle.abstract_sheet.proofs.Lookup.{item-read}
-use Rattle.plan_rules.specs.World.{queryOf, hides}
+use Rattle.plan_rules.specs.World.{hides}
+use Rattle.plan_rules.specs.OnTape.{fixedQuery}
 use Rattle.plan_rules.specs.Tape.{noTag, onTape}
 use Rattle.plan_rules.proofs.Paths.Pushes.{node-missing, node-hidden, node-shown}
 use borrow.Author.Needs.{needs}
@@ -15,7 +16,7 @@ use Rattle.pushes.proofs.items.push_node.Tie as tie
 missing : tie.Need-returns
 missing c =
     let at-find = c .before .before in
-    λ k m. sym (node-missing noTag onTape _ _ tt _ _ _ (item-read nodes _ _ (sym (at-find .find .ensures) ∙ c .enum-told .given .1)))
+    λ k m. sym (node-missing noTag onTape _ _ tt _ _ _ (item-read nodes _ _ (sym (at-find .look-up .ensures) ∙ c .enum-told .given .1)))
 
 hidden : tie.Need-returns-2
 unfolding nodeRecordAt
@@ -26,8 +27,8 @@ hidden c =
     let at-find = at-at .before .before in
     let start = at-find .before .before .before .before in
     let a = start .args in
-    let there = item-read nodes _ _ (sym (at-find .find .ensures) ∙ at-at .at .given .1) in
-    λ k m. sym (node-hidden noTag onTape _ _ tt _ _ _ _ there (sym (ap (λ (x : PreparedNode). hides (queryOf (a .query) (now (a .hidden)) (a .object-limit)) (x .layer) (x .«node_type»)) (at-node-at .node-at .ensures)) ∙ sym (at-is-hidden .is-hidden .ensures (a .query) (a .object-limit)) ∙ c .if1 .taken))
+    let there = item-read nodes _ _ (sym (at-find .look-up .ensures) ∙ at-at .at .given .1) in
+    λ k m. sym (node-hidden noTag onTape _ _ tt _ _ _ _ there (sym (ap (λ (x : PreparedNode). hides (fixedQuery (a .fixed) (now (a .hidden))) (x .layer) (x .«node_type»)) (at-node-at .node-at .ensures)) ∙ sym (at-is-hidden .is-hidden .ensures (a .fixed)) ∙ c .if1 .taken))
 
 shown : tie.Need-returns-3
 unfolding nodeRecordAt
@@ -40,8 +41,8 @@ shown c =
     let at-find = at-at .before .before in
     let start = at-find .before .before .before .before in
     let a = start .args in
-    let there = item-read nodes _ _ (sym (at-find .find .ensures) ∙ at-at .at .given .1) in
-    λ k m. at-push-points .push-points .ensures (now (a .hidden)) k m ∙ sym (node-shown noTag onTape _ _ tt _ _ _ _ there (sym (ap (λ (x : PreparedNode). hides (queryOf (a .query) (now (a .hidden)) (a .object-limit)) (x .layer) (x .«node_type»)) (at-node-at .node-at .ensures)) ∙ sym (at-is-hidden .is-hidden .ensures (a .query) (a .object-limit)) ∙ at-if1 .if1 .left))
+    let there = item-read nodes _ _ (sym (at-find .look-up .ensures) ∙ at-at .at .given .1) in
+    λ k m. at-push-points .push-points .ensures _ (now (a .hidden)) k m ∙ sym (node-shown noTag onTape _ _ tt _ _ _ _ there (sym (ap (λ (x : PreparedNode). hides (fixedQuery (a .fixed) (now (a .hidden))) (x .layer) (x .«node_type»)) (at-node-at .node-at .ensures)) ∙ sym (at-is-hidden .is-hidden .ensures (a .fixed)) ∙ at-if1 .if1 .left))
 
 pub push-node-spec : {M : Type 1} → statement M
 push-node-spec =

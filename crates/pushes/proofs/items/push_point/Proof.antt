@@ -12,8 +12,8 @@ use Rattle.geometry.specs.Bbox.{pointInBbox}
 use Rattle.records.specs.declared.PreparedNode.{PreparedNode}
 use Rattle.abstract_sheet.specs.Sheet.{NodeRecord, nodeRecordAt}
 use Rattle.plan_rules.specs.Event.{point}
-use Rattle.plan_rules.specs.World.{queryOf, detailBudgetExhausted, world, go}
-use Rattle.plan_rules.specs.Push.{say}
+use Rattle.plan_rules.specs.World.{detailBudgetExhausted, world, go}
+use Rattle.plan_rules.specs.OnTape.{fixedQuery, say}
 use Rattle.plan_rules.specs.Tape.{noTag, onTape}
 use Rattle.plan_rules.proofs.Paths.Pushes.{point-outside, point-exhausted, point-listed}
 use borrow.Author.Needs.{needs}
@@ -33,27 +33,27 @@ unfolding nodeRecordAt
 placed c = c .transform-point2 .ensures ∙ ap (transformPoint2 (start (c .before) .args .transform)) (c .before .node-point-at .ensures)
 
 asked-inside : (c : tie.After-point-in-bbox) → let x = c .before .before in
-    pointInBbox (transformPoint2 (start x .args .transform) (node x .point (start x .args .i))) (start x .args .query .view) ≡ c .point-in-bbox .result
-asked-inside c = sym (c .point-in-bbox .ensures ∙ ap (λ (v : DVec2). pointInBbox v (start (c .before .before) .args .query .view)) (placed (c .before)))
+    pointInBbox (transformPoint2 (start x .args .transform) (node x .point (start x .args .i))) (start x .args .fixed .options .view) ≡ c .point-in-bbox .result
+asked-inside c = sym (c .point-in-bbox .ensures ∙ ap (λ (v : DVec2). pointInBbox v (start (c .before .before) .args .fixed .options .view)) (placed (c .before)))
 
 -- the point is in view
 inside : (c : tie.Else1) → let x = c .before .before .before in
-    pointInBbox (transformPoint2 (start x .args .transform) (node x .point (start x .args .i))) (start x .args .query .view) ≡ true
+    pointInBbox (transformPoint2 (start x .args .transform) (node x .point (start x .args .i))) (start x .args .fixed .options .view) ≡ true
 inside c = asked-inside (c .before) ∙ not-false _ (c .if1 .left)
 
 asked-budget : (c : tie.After-detail-budget-exhausted) (hidden : List ℕ) → let a = start (c .before .before .before .before) .args in
-    detailBudgetExhausted (queryOf (a .query) hidden (a .object-limit)) (a .plan) ≡ c .detail-budget-exhausted .result
-asked-budget c hidden = sym (c .detail-budget-exhausted .ensures (start (c .before .before .before .before) .args .query) hidden)
+    detailBudgetExhausted (fixedQuery (a .fixed) hidden) (a .plan) ≡ c .detail-budget-exhausted .result
+asked-budget c hidden = sym (c .detail-budget-exhausted .ensures hidden)
 
 -- ---- the ways out
 
 outside : tie.Need-returns
-outside c = λ hidden k m. sym (point-outside noTag onTape _ _ tt _ (node (c .before .before .before)) _ _ (asked-inside (c .before) ∙ not-true _ (c .if1 .taken)))
+outside c = λ S hidden k m. sym (point-outside noTag onTape S _ tt _ (node (c .before .before .before)) _ _ (asked-inside (c .before) ∙ not-true _ (c .if1 .taken)))
 
 exhausted : tie.Need-returns-2
 exhausted c =
     let e1 = c .before .before in
-    λ hidden k m. sym (point-exhausted noTag onTape _ _ tt _ (node (e1 .before .before .before)) _ _ (inside e1) (asked-budget (c .before) hidden ∙ c .if2 .taken))
+    λ S hidden k m. sym (point-exhausted noTag onTape S _ tt _ (node (e1 .before .before .before)) _ _ (inside e1) (asked-budget (c .before) hidden ∙ c .if2 .taken))
 
 listed : tie.Need-returns-3
 unfolding nodeRecordAt
@@ -64,11 +64,11 @@ listed c =
     let e1 = asked .before in
     let x = e1 .before .before .before in
     let a = start x .args in
-    λ hidden k m.
+    λ S hidden k m.
     ap go
     (put .list-point .ensures k m
-    ∙ ap₂ (λ (x : PreparedNode) (v : DVec2). say noTag onTape tt (point (x .layer) (x .«node_type») v) (world (a .plan) (now (a .out)) k m)) (read .node-at .ensures) (placed (e1 .before .before)))
-    ∙ sym (point-listed noTag onTape _ _ tt _ (node x) (a .i) _ (inside e1) (asked-budget asked hidden ∙ read .before .if2 .left))
+    ∙ ap₂ (λ (x : PreparedNode) (v : DVec2). say (point (x .layer) (x .«node_type») v) (world (a .plan) (now (a .out)) k m)) (read .node-at .ensures) (placed (e1 .before .before)))
+    ∙ sym (point-listed noTag onTape S _ tt _ (node x) (a .i) _ (inside e1) (asked-budget asked hidden ∙ read .before .if2 .left))
 
 pub push-point-spec : {M : Type 1} → statement M
 push-point-spec =

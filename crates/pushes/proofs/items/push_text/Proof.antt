@@ -2,7 +2,6 @@
 -- Assumes nothing.
 use mathlib.Core.Path.{_≡_, sym, ap, _∙_}
 use mathlib.Core.Option.{some}
-use Prim.Native.Nat.{ℕ}
 use denote.Ref.{now}
 use borrow.Author.Tests.{not-true, not-false}
 use Rattle.geometry.specs.declared.placement.DVec2.{DVec2}
@@ -11,8 +10,8 @@ use Rattle.geometry.specs.Bbox.{pointInBbox}
 use Rattle.abstract_sheet.specs.Sheet.{sheetOf, texts}
 use Rattle.abstract_sheet.proofs.Lookup.{item-read}
 use Rattle.plan_rules.specs.Event.{text}
-use Rattle.plan_rules.specs.World.{queryOf, hides, world}
-use Rattle.plan_rules.specs.Push.{say}
+use Rattle.plan_rules.specs.World.{hides, world}
+use Rattle.plan_rules.specs.OnTape.{fixedQuery, say}
 use Rattle.plan_rules.specs.Tape.{noTag, onTape}
 use Rattle.plan_rules.proofs.Paths.Pushes.{text-missing, text-hidden, text-outside, text-listed}
 use borrow.Author.Needs.{needs}
@@ -27,11 +26,11 @@ start c = c .before .before .before .before .before .before .before .before
 there : (c : tie.After-text-at) → sheetOf (now (start c .args .sheet)) .text (start c .args .number) ≡ some (c .text-at .result)
 there c =
     let at-at = c .before .before in
-    item-read texts _ _ (sym (at-at .before .before .find .ensures) ∙ at-at .at .given .1) ∙ ap some (sym (c .text-at .ensures))
+    item-read texts _ _ (sym (at-at .before .before .look-up .ensures) ∙ at-at .at .given .1) ∙ ap some (sym (c .text-at .ensures))
 
-asked-hidden : (c : tie.After-is-hidden) (limit : ℕ) → let a = start (c .before) .args in
-    hides (queryOf (a .query) (now (a .hidden)) limit) (c .before .text-at .result .layer) (c .before .text-at .result .«data_type») ≡ c .is-hidden .result
-asked-hidden c limit = sym (c .is-hidden .ensures (start (c .before) .args .query) limit)
+asked-hidden : (c : tie.After-is-hidden) → let a = start (c .before) .args in
+    hides (fixedQuery (a .fixed) (now (a .hidden))) (c .before .text-at .result .layer) (c .before .text-at .result .«data_type») ≡ c .is-hidden .result
+asked-hidden c = sym (c .is-hidden .ensures (start (c .before) .args .fixed))
 
 -- the text is shown
 abbrev text-read : tie.Else1 → tie.After-text-at
@@ -41,21 +40,21 @@ placed : (c : tie.After-transform-point2) → c .transform-point2 .result ≡ tr
 placed c = c .transform-point2 .ensures
 
 asked-inside : (c : tie.After-point-in-bbox) → let x = text-read (c .before .before) in
-    pointInBbox (transformPoint2 (start x .args .transform) (x .text-at .result .origin)) (start x .args .query .view) ≡ c .point-in-bbox .result
-asked-inside c = sym (c .point-in-bbox .ensures ∙ ap (λ (v : DVec2). pointInBbox v (start (text-read (c .before .before)) .args .query .view)) (placed (c .before)))
+    pointInBbox (transformPoint2 (start x .args .transform) (x .text-at .result .origin)) (start x .args .fixed .options .view) ≡ c .point-in-bbox .result
+asked-inside c = sym (c .point-in-bbox .ensures ∙ ap (λ (v : DVec2). pointInBbox v (start (text-read (c .before .before)) .args .fixed .options .view)) (placed (c .before)))
 
 -- ---- the ways out
 
 missing : tie.Need-returns
-missing c = λ limit k m. sym (text-missing noTag onTape _ _ tt _ _ _ (item-read texts _ _ (sym (c .before .before .find .ensures) ∙ c .enum-told .given .1)))
+missing c = λ k m. sym (text-missing noTag onTape _ _ tt _ _ _ (item-read texts _ _ (sym (c .before .before .look-up .ensures) ∙ c .enum-told .given .1)))
 
 hidden : tie.Need-returns-2
-hidden c = λ limit k m. sym (text-hidden noTag onTape _ _ tt _ _ _ _ (there (c .before .before)) (asked-hidden (c .before) limit ∙ c .if1 .taken))
+hidden c = λ k m. sym (text-hidden noTag onTape _ _ tt _ _ _ _ (there (c .before .before)) (asked-hidden (c .before) ∙ c .if1 .taken))
 
 outside : tie.Need-returns-3
 outside c =
     let e1 = c .before .before .before in
-    λ limit k m. sym (text-outside noTag onTape _ _ tt _ _ _ _ (there (text-read e1)) (asked-hidden (e1 .before) limit ∙ e1 .if1 .left) (asked-inside (c .before) ∙ not-true _ (c .if2 .taken)))
+    λ k m. sym (text-outside noTag onTape _ _ tt _ _ _ _ (there (text-read e1)) (asked-hidden (e1 .before) ∙ e1 .if1 .left) (asked-inside (c .before) ∙ not-true _ (c .if2 .taken)))
 
 listed : tie.Need-returns-4
 listed c =
@@ -63,10 +62,10 @@ listed c =
     let e2 = put .before .before in
     let e1 = e2 .before .before .before in
     let a = start (text-read e1) .args in
-    λ limit k m.
+    λ k m.
     put .list-text .ensures k m
-    ∙ ap (λ (v : DVec2). say noTag onTape tt (text (a .number) v) (world (a .plan) (now (a .out)) k m)) (placed (e2 .before .before))
-    ∙ sym (text-listed noTag onTape _ _ tt _ _ _ _ (there (text-read e1)) (asked-hidden (e1 .before) limit ∙ e1 .if1 .left) (asked-inside (e2 .before) ∙ not-false _ (e2 .if2 .left)))
+    ∙ ap (λ (v : DVec2). say (text (a .number) v) (world (a .plan) (now (a .out)) k m)) (placed (e2 .before .before))
+    ∙ sym (text-listed noTag onTape _ _ tt _ _ _ _ (there (text-read e1)) (asked-hidden (e1 .before) ∙ e1 .if1 .left) (asked-inside (e2 .before) ∙ not-false _ (e2 .if2 .left)))
 
 pub push-text-spec : {M : Type 1} → statement M
 push-text-spec =

@@ -1,6 +1,6 @@
 -- `pushes::add_load_if_boxed` meets its contract: a box is added, and nothing where there is none.
 -- Assumes nothing.
-use mathlib.Core.Path.{_≡_, refl, sym, ap, _∙_}
+use mathlib.Core.Path.{sym, ap, _∙_}
 use denote.Ref.{now}
 use Rattle.geometry.specs.declared.bbox.WorldBBox.{WorldBBox}
 use Rattle.geometry.specs.declared.bbox.Bounds.{Bounds}
@@ -15,7 +15,7 @@ absent : tie.Need-returns
 absent c =
     let start = c .before .before .before in
     let a = start .args in
-    λ k m. sym (ap (λ (x : Bounds). addLoadIfBoxed noTag onTape tt (a .label) x (world (a .plan) (now (a .out)) k m)) (c .enum-told .given .1))
+    λ k m. sym (ap (λ (x : Bounds). addLoadIfBoxed noTag onTape tt (a .why) (a .label) x (world (a .plan) (now (a .out)) k m)) (c .enum-told .given .1))
 
 boxed : tie.Need-returns-2
 boxed c =
@@ -26,8 +26,8 @@ boxed c =
     let a = start .args in
     λ k m.
     at-add-load .add-load .ensures k m
-    ∙ ap (λ (b : WorldBBox). addLoad noTag onTape tt (a .label) b (world (a .plan) (now (a .out)) k m)) (at-new .new .ensures)
-    ∙ sym (ap (λ (x : Bounds). addLoadIfBoxed noTag onTape tt (a .label) x (world (a .plan) (now (a .out)) k m)) (at-bounds .bounds .given .1))
+    ∙ ap (λ (b : WorldBBox). addLoad noTag onTape tt (a .why) (a .label) b (world (a .plan) (now (a .out)) k m)) (at-new .new .ensures)
+    ∙ sym (ap (λ (x : Bounds). addLoadIfBoxed noTag onTape tt (a .why) (a .label) x (world (a .plan) (now (a .out)) k m)) (at-bounds .bounds .given .1))
 
 pub add-load-if-boxed-spec : {M : Type 1} → statement M
 add-load-if-boxed-spec =

@@ -16,12 +16,12 @@ returns c =
     let uint = uint-in _ (now (a .s)) (a .at) (c .before .before .before .before .before .before .before .before .from .ensures) in
     let box = bounds-in _ (now (a .s)) (a .at) (c .before .before .before .before .before .before .before .before .from .ensures) in
     λ i. record {
-      «direct_draw_units» = (c .before .before .before .before .before .before .before .u64-at .ensures ∙ uint 8 8) i;
-      bbox = (c .before .before .before .before .bounds-at .ensures ∙ box 16 _ ∙ ap (λ (b : Bool). boundsAt (now (a .s)) (a .at + 16) b) (c .before .before .before .before .before .bit .ensures ∙ ap (λ (n : ℕ). bit n 0) (c .before .before .before .before .before .before .u16-at .ensures ∙ uint 6 2))) i;
-      geometries = (c .before .before .before .u16-at2 .ensures ∙ uint 48 2) i;
-      texts = (c .before .before .u16-at3 .ensures ∙ uint 50 2) i;
-      nodes = (c .before .u16-at4 .ensures ∙ uint 52 2) i;
-      references = (c .u16-at5 .ensures ∙ uint 54 2) i;
+      «direct_draw_units» = (c .before .before .before .before .before .before .before .u64-at .ensures ∙ uint _ _) i;
+      bbox = (c .before .before .before .before .bounds-at .ensures ∙ box _ _ ∙ ap (λ (b : Bool). boundsAt (now (a .s)) (a .at + _) b) (c .before .before .before .before .before .bit .ensures ∙ ap (λ (n : ℕ). bit n 0) (c .before .before .before .before .before .before .u16-at .ensures ∙ uint _ _))) i;
+      geometries = (c .before .before .before .u16-at2 .ensures ∙ uint _ _) i;
+      texts = (c .before .before .u16-at3 .ensures ∙ uint _ _) i;
+      nodes = (c .before .u16-at4 .ensures ∙ uint _ _) i;
+      references = (c .u16-at5 .ensures ∙ uint _ _) i;
     }
 
 pub cell-at-spec : {M : Type 1} → statement M

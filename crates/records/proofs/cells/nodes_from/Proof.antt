@@ -14,7 +14,7 @@ unfolding nodesFrom
 returns c =
     let a = c .before .before .before .before .args in
     let uint = uint-in _ (now (a .s)) (a .at) (c .before .from .ensures) in
-    (ap₂ (λ (m n : ℕ). m + n) (c .before .before .texts-from .ensures .0) (c .u16-at .ensures ∙ uint 50 2), omega (arith, c .before .before .texts-from .ensures .1))
+    (ap₂ (λ (m n : ℕ). m + n) (c .before .before .texts-from .ensures .0) (c .u16-at .ensures ∙ uint _ _), omega (arith, c .before .before .texts-from .ensures .1))
 
 pub nodes-from-spec : {M : Type 1} → statement M
 nodes-from-spec =

@@ -13,7 +13,7 @@ unfolding textsFrom
 returns c =
     let a = c .before .before .before .args in
     let uint = uint-in _ (now (a .s)) (a .at) (c .before .from .ensures) in
-    (c .u16-at .ensures ∙ uint 48 2, omega arith)
+    (c .u16-at .ensures ∙ uint _ _, omega arith)
 
 pub texts-from-spec : {M : Type 1} → statement M
 texts-from-spec = tie.close (tie.spec (λ c κs. search needs) (λ c κs. search needs) (λ c. search needs) returns)

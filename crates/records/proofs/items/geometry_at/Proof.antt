@@ -14,10 +14,10 @@ returns c =
     let uint = uint-in _ (now (a .s)) (a .at) (c .before .before .before .before .from .ensures) in
     let box = bbox-in _ (now (a .s)) (a .at) (c .before .before .before .before .from .ensures) in
     λ i. record {
-      layer = (c .before .before .before .u16-at .ensures ∙ uint 6 2) i;
-      «data_type» = (c .before .before .u16-at2 .ensures ∙ uint 8 2) i;
-      «element_count» = (c .before .u32-at .ensures ∙ uint 10 4) i;
-      bbox = (c .world-bbox-at .ensures ∙ box 14) i;
+      layer = (c .before .before .before .u16-at .ensures ∙ uint _ _) i;
+      «data_type» = (c .before .before .u16-at2 .ensures ∙ uint _ _) i;
+      «element_count» = (c .before .u32-at .ensures ∙ uint _ _) i;
+      bbox = (c .world-bbox-at .ensures ∙ box _) i;
     }
 
 pub geometry-at-spec : {M : Type 1} → statement M

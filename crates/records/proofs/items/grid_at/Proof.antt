@@ -16,15 +16,15 @@ returns c =
     let float = f64-in _ (now (a .s)) (a .at) (c .before .before .before .before .before .before .before .before .before .before .from .ensures) in
     let point = dvec2-in _ (now (a .s)) (a .at) (c .before .before .before .before .before .before .before .before .before .before .from .ensures) in
     λ i. record {
-      columns = (c .before .before .before .before .before .before .before .before .before .u16-at .ensures ∙ uint 6 2) i;
-      rows = (c .before .before .before .before .before .before .before .before .u16-at2 .ensures ∙ uint 8 2) i;
-      «x_reflection» = (c .before .before .before .before .before .before .bit .ensures ∙ ap (λ (n : ℕ). bit n 0) (c .before .before .before .before .before .before .before .u16-at3 .ensures ∙ uint 10 2)) i;
-      origin = (c .before .before .before .before .before .dvec2-at .ensures ∙ point 18) i;
-      «spacing_x» = (c .before .before .before .before .dvec2-at2 .ensures ∙ point 34) i;
-      «spacing_y» = (c .before .before .before .dvec2-at3 .ensures ∙ point 50) i;
-      magnification = (c .before .before .f64-at .ensures ∙ float 66) i;
-      cos = (c .before .f64-at2 .ensures ∙ float 74) i;
-      sin = (c .f64-at3 .ensures ∙ float 82) i;
+      columns = (c .before .before .before .before .before .before .before .before .before .u16-at .ensures ∙ uint _ _) i;
+      rows = (c .before .before .before .before .before .before .before .before .u16-at2 .ensures ∙ uint _ _) i;
+      «x_reflection» = (c .before .before .before .before .before .before .bit .ensures ∙ ap (λ (n : ℕ). bit n 0) (c .before .before .before .before .before .before .before .u16-at3 .ensures ∙ uint _ _)) i;
+      origin = (c .before .before .before .before .before .dvec2-at .ensures ∙ point _) i;
+      «spacing_x» = (c .before .before .before .before .dvec2-at2 .ensures ∙ point _) i;
+      «spacing_y» = (c .before .before .before .dvec2-at3 .ensures ∙ point _) i;
+      magnification = (c .before .before .f64-at .ensures ∙ float _) i;
+      cos = (c .before .f64-at2 .ensures ∙ float _) i;
+      sin = (c .f64-at3 .ensures ∙ float _) i;
     }
 
 pub grid-at-spec : {M : Type 1} → statement M

@@ -1,8 +1,7 @@
 -- `records::items::node_at` meets its contract. Assumes nothing.
-use Prim.Native.Nat.{ℕ, _-_, _/_}
 use mathlib.Core.Path.{ap, _∙_}
 use denote.Ref.{now}
-use Rattle.records.specs.Records.{nodeAt}
+use Rattle.records.specs.Records.{pointsOf, nodeAt}
 use Rattle.records.proofs.Body.{uint-in}
 use borrow.Author.Needs.{needs}
 use Rattle.records.proofs.items.node_at.Statement.{statement}
@@ -14,9 +13,9 @@ returns c =
     let a = c .before .before .before .before .before .before .args in
     let uint = uint-in _ (now (a .s)) (a .at) (c .before .before .before .before .from .ensures) in
     λ i. record {
-      layer = (c .before .before .before .u16-at .ensures ∙ uint 6 2) i;
-      «node_type» = (c .before .before .u16-at2 .ensures ∙ uint 8 2) i;
-      points = (c .points-of .ensures ∙ ap (λ (n : ℕ). (n - 10) / 16) (c .before .u32-at .ensures)) i;
+      layer = (c .before .before .before .u16-at .ensures ∙ uint _ _) i;
+      «node_type» = (c .before .before .u16-at2 .ensures ∙ uint _ _) i;
+      points = (c .points-of .ensures ∙ ap pointsOf (c .before .u32-at .ensures)) i;
     }
 
 pub node-at-spec : {M : Type 1} → statement M

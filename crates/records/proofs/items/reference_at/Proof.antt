@@ -17,8 +17,8 @@ returns c =
     let box = bounds-in _ (now (a .s)) (a .at) (c .before .before .before .before .before .before .before .from .ensures) in
     λ i. record {
       grid = (c .before .before .before .before .before .before .grid-at .ensures) i;
-      source = (c .before .before .before .source-of .ensures ∙ ap₂ sourceOf (c .before .before .before .before .before .u16-at .ensures ∙ uint 12 2) (c .before .before .before .before .u32-at .ensures ∙ uint 14 4)) i;
-      «source_bbox» = (c .bounds-at .ensures ∙ box 90 _ ∙ ap (λ (b : Bool). boundsAt (now (a .s)) (a .at + 90) b) (c .before .bit .ensures ∙ ap (λ (n : ℕ). bit n 1) (c .before .before .u16-at2 .ensures ∙ uint 10 2))) i;
+      source = (c .before .before .before .source-of .ensures ∙ ap₂ sourceOf (c .before .before .before .before .before .u16-at .ensures ∙ uint _ _) (c .before .before .before .before .u32-at .ensures ∙ uint _ _)) i;
+      «source_bbox» = (c .bounds-at .ensures ∙ box _ _ ∙ ap (λ (b : Bool). boundsAt (now (a .s)) (a .at + _) b) (c .before .bit .ensures ∙ ap (λ (n : ℕ). bit n 1) (c .before .before .u16-at2 .ensures ∙ uint _ _))) i;
     }
 
 pub reference-at-spec : {M : Type 1} → statement M

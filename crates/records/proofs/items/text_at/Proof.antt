@@ -14,9 +14,9 @@ returns c =
     let uint = uint-in _ (now (a .s)) (a .at) (c .before .before .before .from .ensures) in
     let point = dvec2-in _ (now (a .s)) (a .at) (c .before .before .before .from .ensures) in
     λ i. record {
-      layer = (c .before .before .u16-at .ensures ∙ uint 6 2) i;
-      «data_type» = (c .before .u16-at2 .ensures ∙ uint 8 2) i;
-      origin = (c .dvec2-at .ensures ∙ point 10) i;
+      layer = (c .before .before .u16-at .ensures ∙ uint _ _) i;
+      «data_type» = (c .before .u16-at2 .ensures ∙ uint _ _) i;
+      origin = (c .dvec2-at .ensures ∙ point _) i;
     }
 
 pub text-at-spec : {M : Type 1} → statement M

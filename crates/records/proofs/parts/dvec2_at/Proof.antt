@@ -12,7 +12,7 @@ unfolding dvec2At
 returns c =
     let a = c .before .before .before .before .args in
     let float = f64-in _ (now (a .s)) (a .at) (c .before .from .ensures) in
-    λ i. record { x = (c .before .before .f64-at .ensures) i; y = (c .f64-at2 .ensures ∙ float 8) i }
+    λ i. record { x = (c .before .before .f64-at .ensures) i; y = (c .f64-at2 .ensures ∙ float _) i }
 
 pub dvec2-at-spec : {M : Type 1} → statement M
 dvec2-at-spec = tie.close (tie.spec (λ c κs. search needs) (λ c κs. search needs) (λ c κs. search needs) returns)

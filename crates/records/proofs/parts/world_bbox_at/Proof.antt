@@ -14,9 +14,9 @@ returns c =
     let float = f64-in _ (now (a .s)) (a .at) (c .before .before .before .before .from .ensures) in
     λ i. record {
       «min_x» = (c .before .before .before .f64-at .ensures) i;
-      «min_y» = (c .before .before .f64-at2 .ensures ∙ float 8) i;
-      «max_x» = (c .before .f64-at3 .ensures ∙ float 16) i;
-      «max_y» = (c .f64-at4 .ensures ∙ float 24) i;
+      «min_y» = (c .before .before .f64-at2 .ensures ∙ float _) i;
+      «max_x» = (c .before .f64-at3 .ensures ∙ float _) i;
+      «max_y» = (c .f64-at4 .ensures ∙ float _) i;
     }
 
 pub world-bbox-at-spec : {M : Type 1} → statement M

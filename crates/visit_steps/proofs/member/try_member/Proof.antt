@@ -31,10 +31,8 @@ exhausted c =
     let at-if1 = at-add-load .before .before in
     let at-budget = at-if1 .before in
     let at-label = at-budget .before in
-    let start = at-label .before .before .before .before .before .before .before in
-    let a = start .args in
-    λ S cells hidden visit k m.
-    try-exhausted S cells _ visit _ _ _ _ _ _ _ _ _ _ (at-label .label .ensures) _ (at-budget .detail-budget-exhausted .ensures (a .query) hidden)
+    λ S hidden visit k m.
+    try-exhausted S _ _ visit _ _ _ _ _ _ _ _ _ _ (at-label .label .ensures) _ (at-budget .detail-budget-exhausted .ensures hidden)
     (at-if1 .if1 .taken) _ (at-add-load .add-load .ensures k m)
 
 culled : tie.Need-returns-2
@@ -47,10 +45,8 @@ culled c =
     let at-transform-bbox = at-label .before in
     let at-mul = at-transform-bbox .before in
     let at-grid-member-transform = at-mul .before in
-    let start = at-grid-member-transform .before .before .before .before in
-    let a = start .args in
-    λ S cells hidden visit k m.
-    try-culled S cells _ visit _ _ _ _ _ _ _ _ _ _ (at-label .label .ensures) _ (at-budget .detail-budget-exhausted .ensures (a .query) hidden)
+    λ S hidden visit k m.
+    try-culled S _ _ visit _ _ _ _ _ _ _ _ _ _ (at-label .label .ensures) _ (at-budget .detail-budget-exhausted .ensures hidden)
     (at-if1 .if1 .left) _ (at-grid-member-transform .grid-member-transform .ensures) _ (at-mul .mul .ensures) _ (at-transform-bbox .transform-bbox .ensures) _ (at-overlaps .overlaps .ensures)
     (at-if2 .if2 .taken) _ (c .count-culled-reference .ensures _ k m)
 
@@ -68,10 +64,8 @@ skipped c =
     let at-transform-bbox = at-label .before in
     let at-mul = at-transform-bbox .before in
     let at-grid-member-transform = at-mul .before in
-    let start = at-grid-member-transform .before .before .before .before in
-    let a = start .args in
-    λ S cells hidden visit k m.
-    try-skipped S cells _ visit _ _ _ _ _ _ _ _ _ _ (at-label .label .ensures) _ (at-budget .detail-budget-exhausted .ensures (a .query) hidden)
+    λ S hidden visit k m.
+    try-skipped S _ _ visit _ _ _ _ _ _ _ _ _ _ (at-label .label .ensures) _ (at-budget .detail-budget-exhausted .ensures hidden)
     (at-if1 .if1 .left) _ (at-grid-member-transform .grid-member-transform .ensures) _ (at-mul .mul .ensures) _ (at-transform-bbox .transform-bbox .ensures) _ (at-overlaps .overlaps .ensures)
     (at-if2 .if2 .left) _ (at-degenerate .source-is-degenerate .ensures) _ (at-size .reference-screen-size .ensures) _ (at-subpixel .is-subpixel .ensures)
     (at-if3 .if3 .taken) _ (λ g b. c .count-skipped-member .ensures g b _ k m)
@@ -79,9 +73,11 @@ skipped c =
 collapsed : tie.Need-returns-4
 collapsed c =
     let at-add-load = c .before .before in
-    let at-if4 = at-add-load .before .before in
-    let at-collapse = at-if4 .before in
-    let at-if3 = at-collapse .before in
+    let at-reason = at-add-load .before in
+    let at-if4 = at-reason .before .before in
+    let at-collapses = at-if4 .before in
+    let at-test = at-collapses .before in
+    let at-if3 = at-test .before in
     let at-subpixel = at-if3 .before in
     let at-size = at-subpixel .before in
     let at-degenerate = at-size .before in
@@ -93,19 +89,18 @@ collapsed c =
     let at-transform-bbox = at-label .before in
     let at-mul = at-transform-bbox .before in
     let at-grid-member-transform = at-mul .before in
-    let start = at-grid-member-transform .before .before .before .before in
-    let a = start .args in
-    λ S cells hidden visit k m.
-    try-collapsed S cells _ visit _ _ _ _ _ _ _ _ _ _ (at-label .label .ensures) _ (at-budget .detail-budget-exhausted .ensures (a .query) hidden)
+    λ S hidden visit k m.
+    try-collapsed S _ _ visit _ _ _ _ _ _ _ _ _ _ (at-label .label .ensures) _ (at-budget .detail-budget-exhausted .ensures hidden)
     (at-if1 .if1 .left) _ (at-grid-member-transform .grid-member-transform .ensures) _ (at-mul .mul .ensures) _ (at-transform-bbox .transform-bbox .ensures) _ (at-overlaps .overlaps .ensures)
     (at-if2 .if2 .left) _ (at-degenerate .source-is-degenerate .ensures) _ (at-size .reference-screen-size .ensures) _ (at-subpixel .is-subpixel .ensures)
-    (at-if3 .if3 .left) _ (at-collapse .should-collapse-reference .ensures)
-    (at-if4 .if4 .taken) _ (at-add-load .add-load2 .ensures k m)
+    (at-if3 .if3 .left) _ (at-test .collapse-test .ensures) _ (at-collapses .collapses .ensures)
+    (at-if4 .if4 .taken) _ (at-reason .collapse-reason .ensures) _ (at-add-load .add-load2 .ensures k m)
 
 opens : tie.Need-returns-5
 opens c =
-    let at-collapse = c .before in
-    let at-if3 = at-collapse .before in
+    let at-collapses = c .before in
+    let at-test = at-collapses .before in
+    let at-if3 = at-test .before in
     let at-subpixel = at-if3 .before in
     let at-size = at-subpixel .before in
     let at-degenerate = at-size .before in
@@ -117,13 +112,11 @@ opens c =
     let at-transform-bbox = at-label .before in
     let at-mul = at-transform-bbox .before in
     let at-grid-member-transform = at-mul .before in
-    let start = at-grid-member-transform .before .before .before .before in
-    let a = start .args in
-    λ S cells hidden visit k m.
-    try-opens S cells _ visit _ _ _ _ _ _ _ _ _ _ (at-label .label .ensures) _ (at-budget .detail-budget-exhausted .ensures (a .query) hidden)
+    λ S hidden visit k m.
+    try-opens S _ _ visit _ _ _ _ _ _ _ _ _ _ (at-label .label .ensures) _ (at-budget .detail-budget-exhausted .ensures hidden)
     (at-if1 .if1 .left) _ (at-grid-member-transform .grid-member-transform .ensures) _ (at-mul .mul .ensures) _ (at-transform-bbox .transform-bbox .ensures) _ (at-overlaps .overlaps .ensures)
     (at-if2 .if2 .left) _ (at-degenerate .source-is-degenerate .ensures) _ (at-size .reference-screen-size .ensures) _ (at-subpixel .is-subpixel .ensures)
-    (at-if3 .if3 .left) _ (at-collapse .should-collapse-reference .ensures)
+    (at-if3 .if3 .left) _ (at-test .collapse-test .ensures) _ (at-collapses .collapses .ensures)
     (c .if4 .left)
 
 pub try-member-spec : {M : Type 1} → statement M
@@ -133,4 +126,4 @@ try-member-spec =
     (λ c κs. search needs) (λ c κs. search needs) (λ c κs. search needs) (λ c κs. search needs) (λ c κs. search needs) (λ c κs. search needs)
     (λ c. search needs) exhausted (λ c κs. search needs) (λ c κs. search needs) culled
     (λ c κs. search needs) (λ c κs. search needs) (λ c κs. search needs) (λ c κs. search needs)
-    skipped (λ c κs. search needs) (λ c κs. search needs) (λ c. search needs) collapsed opens)
+    skipped (λ c κs. search needs) (λ c κs. search needs) (λ c κs. search needs) (λ c κs. search needs) (λ c. search needs) collapsed opens)

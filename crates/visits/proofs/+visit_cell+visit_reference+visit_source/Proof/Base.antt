@@ -7,23 +7,26 @@ use borrow.Fn.Kinds.{In}
 use borrow.Fn.PlainCycle.{Measures, is, falls, and}
 use Rattle.geometry.proofs.grid.grid_count.Reads as grid-count-reads
 use Rattle.pushes.proofs.add_load.Reads as add-load-reads
-use Rattle.pushes.proofs.add_load_if_boxed.Reads as add-load-if-boxed-reads
-use Rattle.pushes.proofs.detail_budget_exhausted.Reads as detail-budget-exhausted-reads
+use Rattle.visit_items.proofs.load_cell.Reads as load-cell-reads
+use Rattle.limits.proofs.detail_budget_exhausted.Reads as detail-budget-exhausted-reads
 use Rattle.pushes.proofs.push_geometry.Reads as push-geometry-reads
 use Rattle.pushes.proofs.push_node.Reads as push-node-reads
 use Rattle.pushes.proofs.push_text.Reads as push-text-reads
 use Rattle.records.proofs.cell_reference_at.Reads as cell-reference-at-reads
 use Rattle.records.proofs.reference_at.Reads as reference-at-reads
 use Rattle.units.proofs.reference_draw_units.Reads as reference-draw-units-reads
-use Rattle.units.proofs.stack_remove.Reads as stack-remove-reads
+use Rattle.scratch.proofs.stack_remove.Reads as stack-remove-reads
 use Rattle.visit_items.proofs.push_items.Reads as push-items-reads
-use Rattle.visit_values.proofs.label.Reads as label-reads
-use Rattle.visit_values.proofs.source_units.Reads as source-units-reads
+use Rattle.records.proofs.label.Reads as label-reads
+use Rattle.units.proofs.source_units.Reads as source-units-reads
 use Rattle.visit_steps.proofs.cell.enter_cell.Reads as enter-cell-reads
 use Rattle.visit_steps.proofs.member.try_member.Reads as try-member-reads
-use Rattle.visit_steps.proofs.reference.collapses.Reads as collapses-reads
+use Rattle.visit_steps.proofs.reference.reference_test.Reads as reference-test-reads
+use Rattle.visit_steps.proofs.reference.collapse_reason.Reads as collapse-reason-reads
+use Rattle.geometry.proofs.screen.collapses.Reads as collapses-reads
+use Rattle.records.proofs.cell_at.Reads as cell-at-reads
 use Rattle.visit_steps.proofs.reference.open_reference.Reads as open-reference-reads
-use Rattle.walk.proofs.find.Reads as find-reads
+use Rattle.look_up.proofs.look_up.Reads as look-up-reads
 use Rattle.visits.proofs.visit_cell.Reads as visit-cell
 use Rattle.visits.proofs.visit_cell.Kinds as visit-cell-kinds
 use Rattle.visits.proofs.+visit_cell+visit_reference+visit_source.Lts-visit_cell as visit-cell-lts
@@ -34,16 +37,16 @@ use Rattle.visits.proofs.visit_source.Reads as visit-source
 use Rattle.visits.proofs.visit_source.Kinds as visit-source-kinds
 use Rattle.visits.proofs.+visit_cell+visit_reference+visit_source.Lts-visit_source as visit-source-lts
 
--- ---- the falling number: the depth is the twelfth argument
+-- ---- the falling number: the depth is the tenth argument
 
 abbrev pub μ-visit-reference : Measures 5 visit-reference-kinds.ps ℕ
-μ-visit-reference κs a = 3 * (a .1 .1 .1 .1 .1 .1 .1 .1 .1 .1 .1 .0) + 1
+μ-visit-reference κs a = 3 * (a .1 .1 .1 .1 .1 .1 .1 .1 .1 .0) + 1
 
 abbrev pub μ-visit-cell : Measures 5 visit-cell-kinds.ps ℕ
-μ-visit-cell κs a = 3 * (a .1 .1 .1 .1 .1 .1 .1 .1 .1 .1 .1 .0) + 2
+μ-visit-cell κs a = 3 * (a .1 .1 .1 .1 .1 .1 .1 .1 .1 .0) + 2
 
 abbrev pub μ-visit-source : Measures 5 visit-source-kinds.ps ℕ
-μ-visit-source κs a = 3 * (a .1 .1 .1 .1 .1 .1 .1 .1 .1 .1 .1 .0) + 3
+μ-visit-source κs a = 3 * (a .1 .1 .1 .1 .1 .1 .1 .1 .1 .0) + 3
 
 -- ---- a call at the number t, and one below it
 
@@ -68,10 +71,10 @@ visit-source-below t = and 5 visit-source-kinds.ps (falls 5 visit-source-kinds.p
 -- ---- what the calls ask and teach
 
 abbrev pub visit-cell-claims : ℕ → visit-cell-lts.Claims
-visit-cell-claims t = (find-reads.Asked, find-reads.Learnt, enter-cell-reads.Asked, enter-cell-reads.Learnt, push-items-reads.Asked, push-items-reads.Learnt, detail-budget-exhausted-reads.Asked, detail-budget-exhausted-reads.Learnt, add-load-if-boxed-reads.Asked, add-load-if-boxed-reads.Learnt, stack-remove-reads.Asked, stack-remove-reads.Learnt, cell-reference-at-reads.Asked, cell-reference-at-reads.Learnt, visit-reference-below t, visit-reference.Post)
+visit-cell-claims t = (look-up-reads.Asked, look-up-reads.Learnt, cell-at-reads.Asked, cell-at-reads.Learnt, enter-cell-reads.Asked, enter-cell-reads.Learnt, push-items-reads.Asked, push-items-reads.Learnt, detail-budget-exhausted-reads.Asked, detail-budget-exhausted-reads.Learnt, load-cell-reads.Asked, load-cell-reads.Learnt, stack-remove-reads.Asked, stack-remove-reads.Learnt, cell-reference-at-reads.Asked, cell-reference-at-reads.Learnt, visit-reference-below t, visit-reference.Post)
 
 abbrev pub visit-reference-claims : ℕ → visit-reference-lts.Claims
-visit-reference-claims t = (find-reads.Asked, find-reads.Learnt, reference-at-reads.Asked, reference-at-reads.Learnt, open-reference-reads.Asked, open-reference-reads.Learnt, grid-count-reads.Asked, grid-count-reads.Learnt, reference-draw-units-reads.Asked, reference-draw-units-reads.Learnt, collapses-reads.Asked, collapses-reads.Learnt, label-reads.Asked, label-reads.Learnt, add-load-reads.Asked, add-load-reads.Learnt, source-units-reads.Asked, source-units-reads.Learnt, try-member-reads.Asked, try-member-reads.Learnt, visit-source-below t, visit-source.Post)
+visit-reference-claims t = (look-up-reads.Asked, look-up-reads.Learnt, reference-at-reads.Asked, reference-at-reads.Learnt, open-reference-reads.Asked, open-reference-reads.Learnt, grid-count-reads.Asked, grid-count-reads.Learnt, reference-draw-units-reads.Asked, reference-draw-units-reads.Learnt, reference-test-reads.Asked, reference-test-reads.Learnt, label-reads.Asked, label-reads.Learnt, collapses-reads.Asked, collapses-reads.Learnt, collapse-reason-reads.Asked, collapse-reason-reads.Learnt, add-load-reads.Asked, add-load-reads.Learnt, source-units-reads.Asked, source-units-reads.Learnt, try-member-reads.Asked, try-member-reads.Learnt, visit-source-below t, visit-source.Post)
 
 abbrev pub visit-source-claims : ℕ → visit-source-lts.Claims
 visit-source-claims t = (visit-cell-below t, visit-cell.Post, push-geometry-reads.Asked, push-geometry-reads.Learnt, push-text-reads.Asked, push-text-reads.Learnt, push-node-reads.Asked, push-node-reads.Learnt, visit-reference-below t, visit-reference.Post)

@@ -5,12 +5,14 @@ use Prim.Native.Nat.{ℕ, _-_, _≤_}
 use native.Mathlib.Omega.{arith}
 use borrow.Author.Needs.{needs}
 use lib.ListN.{length, set}
-use Rattle.abstract_sheet.specs.Sheet.{sheetOf}
+use Rattle.abstract_sheet.specs.Sheet.{sheetOf, cellRecordWith}
+use Rattle.visit_items.specs.declared.OpenCell.{OpenCell}
 use Rattle.plan_rules.specs.declared.ScenePlan.{ScenePlan}
-use Rattle.plan_rules.specs.World.{queryOf, world, each, ending}
+use Rattle.plan_rules.specs.World.{world, each, ending}
 use Rattle.plan_rules.specs.Scratch.{openPlace}
-use Rattle.plan_rules.specs.Visit.{visitReference, visitCell}
+use Rattle.plan_rules.specs.Visit as rules
 use Rattle.plan_rules.specs.Tape.{noTag, onTape}
+use Rattle.plan_rules.specs.OnTape.{fixedQuery, VisitReference, visitCell}
 use Rattle.plan_rules.proofs.Paths.Loops.{each-start, each-go, each-halt, each-done}
 use Rattle.visits.proofs.Cells
 use Rattle.visits.proofs.visit_cell.Reads as visit-cell
@@ -18,131 +20,158 @@ use Rattle.visits.proofs.+visit_cell+visit_reference+visit_source.Lts-v
 use Rattle.visits.proofs.+visit_cell+visit_reference+visit_source.Proof.Base.{visit-cell-at, visit-cell-claims}
 
 abbrev pub Inv-loop : lts.InvT-loop
-Inv-loop sheet cells query hidden object-limit out₀ counts₀ marks₀ cell transform depth at bounds references next₀ i₀ out counts marks next i =
+Inv-loop sheet fixed hidden out₀ counts₀ marks₀ cell transform depth at open-cell references next₀ i₀ out counts marks next i =
     (i ≤ references)
     × (length out ≡ length out₀)
     × (length counts ≡ length counts₀)
     × (length marks ≡ length marks₀)
-    × (each (Cells.turn sheet cells (queryOf query hidden object-limit) depth cell at transform bounds) references 0 (world next₀ out₀ counts₀ marks₀) ≡ each (Cells.turn sheet cells (queryOf query hidden object-limit) depth cell at transform bounds) (references - i) i (world next out counts marks))
+    × (each (Cells.turn sheet fixed hidden depth open-cell) references 0 (world next₀ out₀ counts₀ marks₀) ≡ each (Cells.turn sheet fixed hidden depth open-cell) (references - i) i (world next out counts marks))
 
 abbrev pub μ-loop : lts.MeasureT-loop
-μ-loop sheet cells query hidden object-limit out₀ counts₀ marks₀ cell transform depth at bounds references next₀ i₀ out counts marks next i = references - i
+μ-loop sheet fixed hidden out₀ counts₀ marks₀ cell transform depth at open-cell references next₀ i₀ out counts marks next i = references - i
 
 module _ (t : ℕ) where
+  -- ---- the places on the way, and the ways back
+
+  abbrev Start : Type 0
+  Start = lts.Start (visit-cell-claims t) (visit-cell-at t) visit-cell.Post Inv-loop μ-loop
+
+  abbrev Looked : Type 0
+  Looked = lts.After-look-up (visit-cell-claims t) (visit-cell-at t) visit-cell.Post Inv-loop μ-loop
+
+  abbrev Entered : Type 0
+  Entered = lts.After-enter-cell (visit-cell-claims t) (visit-cell-at t) visit-cell.Post Inv-loop μ-loop
+
+  abbrev Listed : Type 0
+  Listed = lts.After-push-items (visit-cell-claims t) (visit-cell-at t) visit-cell.Post Inv-loop μ-loop
+
+  abbrev Head : Type 0
+  Head = lts.At-loop (visit-cell-claims t) (visit-cell-at t) visit-cell.Post Inv-loop μ-loop
+
+  abbrev start : Looked → Start
+  start c = c .before .before .before .before .before .before
+
+  abbrev looked : Entered → Looked
+  looked c = c .before .before .before .before .before .before .before
+
+  abbrev entered : Listed → Entered
+  entered c = c .before .before .before .before .before .before .before .before .before
+
+  abbrev listed : Head → Listed
+  listed c = c .before .before .before .before
+
+  abbrev entry : Head → Start
+  entry c = start (looked (entered (listed c)))
+
+  -- how the cell's references are visited
+  abbrev visit : (c : Start) → VisitReference (sheetOf (c .args .sheet .now)) (c .args .fixed) (c .args .hidden .now)
+  visit c = rules.visitReference noTag onTape (sheetOf (c .args .sheet .now)) (c .args .fixed .counts .cells) (fixedQuery (c .args .fixed) (c .args .hidden .now)) (c .args .depth)
+
+  -- the cell that is open in the loop
+  abbrev open-cell : Head → OpenCell
+  open-cell c =
+      let e = entered (listed c) in
+      let a = entry c .args in
+      record { number = a .cell; at = e .before .before .before .before .before .at .given .0 .0; «record» = e .before .before .before .cell-at .result; transform = a .transform; bounds = e .enter-cell .result .bounds }
+
+  -- ---- the ways out
+
   pub missing : lts.Need-returns (visit-cell-claims t) (visit-cell-at t) visit-cell.Post Inv-loop μ-loop
   missing c =
-      let after-find = c .before .before in
-      let start = after-find .before .before .before .before .before .before in
-      Cells.cell-missing (start .args .sheet .now) (start .args .cells) (queryOf (start .args .query) (start .args .hidden .now) (start .args .object-limit)) (start .args .depth) (start .args .cell) (start .args .transform)
-      (world (start .args .plan) (start .args .out .now) (start .args .counts .now) (start .args .marks .now)) (sym (after-find .find .ensures) ∙ c .enum-told .given .1)
+      let s = start (c .before .before) in
+      let a = s .args in
+      Cells.cell-missing (a .sheet .now) (a .fixed) (a .hidden .now) (a .depth) (a .cell) (a .transform) _ (sym (c .before .before .look-up .ensures) ∙ c .enum-told .given .1)
 
   pub not-entered : lts.Need-returns-2 (visit-cell-claims t) (visit-cell-at t) visit-cell.Post Inv-loop μ-loop
   not-entered c =
-      let after-enter-cell = c .before .before .before .before .before .before .before in
-      let after-at = after-enter-cell .before .before .before .before in
-      let after-find = after-at .before .before in
-      let start = after-find .before .before .before .before .before .before in
-      Cells.cell-not-entered (start .args .sheet .now) (start .args .cells) (queryOf (start .args .query) (start .args .hidden .now) (start .args .object-limit)) (start .args .depth) (start .args .cell) (start .args .transform)
-      (world (start .args .plan) (start .args .out .now) (start .args .counts .now) (start .args .marks .now))
-      (after-at .at .given .0 .0) (sym (after-find .find .ensures) ∙ after-at .at .given .1) (after-enter-cell .enter-cell .result .goes) (after-enter-cell .enter-cell .result .bounds)
-      (world (after-enter-cell .enter-cell .result .plan) (after-enter-cell .enter-cell .last .1 .1 .1 .1 .0) (start .args .counts .now) (after-enter-cell .enter-cell .last .1 .1 .1 .1 .1 .0))
-      (after-enter-cell .enter-cell .ensures (sheetOf (start .args .sheet .now)) (start .args .hidden .now) (visitReference noTag onTape (sheetOf (start .args .sheet .now)) (start .args .cells) (queryOf (start .args .query) (start .args .hidden .now) (start .args .object-limit)) (start .args .depth)) (start .args .counts .now))
+      let e = c .before .before .before .before .before .before .before in
+      let at-at = e .before .before .before .before .before in
+      let s = start (looked e) in
+      let a = s .args in
+      Cells.cell-not-entered (a .sheet .now) (a .fixed) (a .hidden .now) (a .depth) (a .cell) (a .transform) _
+      (at-at .at .given .0 .0) (sym (looked e .look-up .ensures) ∙ at-at .at .given .1) (e .before .before .before .cell-at .result) (e .before .before .before .cell-at .ensures) (e .enter-cell .result) _
+      (e .enter-cell .ensures (sheetOf (a .sheet .now)) (a .hidden .now) (visit s) (cellRecordWith (a .sheet .now) (at-at .at .given .0 .0) (e .before .before .before .cell-at .result)) (a .counts .now) refl)
       (c .if1 .taken)
 
   pub loop-starts : lts.Need-loop-holds (visit-cell-claims t) (visit-cell-at t) visit-cell.Post Inv-loop μ-loop
   loop-starts c = (search needs, refl, refl, refl, sym (each-start _ _ _))
 
   pub reference-falls : lts.Need-visit-reference-requires (visit-cell-claims t) (visit-cell-at t) visit-cell.Post Inv-loop μ-loop
-  reference-falls c κs =
-      let start = c .before .before .before .before .before .before .before .before .before .before .before .before .before .before .before .before .before .before .before .before .before .before .before .before .before .before .before .before .before .before .before .before in
-      (omega (arith, start .pre .0), search needs)
+  reference-falls c κs = (omega (arith, entry (c .before .before .before .before .before .before .before) .pre .0), search needs)
 
   pub number-fits : lts.Need-add-i (visit-cell-claims t) (visit-cell-at t) visit-cell.Post Inv-loop μ-loop
   number-fits c =
       let after-loop-test = c .before .before .before .before .before .before .before .before .before .before .before .before .before in
-      let after-push-items = after-loop-test .before .before .before .before .before in
-      record { fits = omega (arith, after-loop-test .loop-test .taken, after-push-items .push-items .ok) }
+      record { fits = omega (arith, after-loop-test .loop-test .taken, listed (after-loop-test .before) .push-items .ok) }
 
   pub loop-turns : lts.Need-loop-again (visit-cell-claims t) (visit-cell-at t) visit-cell.Post Inv-loop μ-loop
   loop-turns c =
-      let after-visit-reference = c .before .before .before .before .before .before in
-      let after-cell-reference-at = after-visit-reference .before .before .before .before in
-      let after-if2 = after-cell-reference-at .before in
-      let after-detail-budget-exhausted = after-if2 .before in
-      let after-loop-test = after-detail-budget-exhausted .before in
+      let visited = c .before .before .before .before .before .before in
+      let read = visited .before .before .before .before in
+      let after-if2 = read .before in
+      let asked = after-if2 .before in
+      let after-loop-test = asked .before in
       let after-loop = after-loop-test .before in
-      let start = after-loop .before .before .before .before .before .before .before .before .before .before .before .before .before .before .before .before .before .before .before .before .before .before .before .before .before in (
+      let a = entry after-loop .args in (
         omega arith,
-        after-visit-reference .visit-reference .kept .1 .1 .1 .1 .1 .0 ∙ after-loop .loop .inv .1,
-        after-visit-reference .visit-reference .kept .1 .1 .1 .1 .1 .1 .0 ∙ after-loop .loop .inv .2,
-        after-visit-reference .visit-reference .kept .1 .1 .1 .1 .1 .1 .1 .0 ∙ after-loop .loop .inv .3,
+        visited .visit-reference .kept .1 .1 .1 .0 ∙ after-loop .loop .inv .1,
+        visited .visit-reference .kept .1 .1 .1 .1 .0 ∙ after-loop .loop .inv .2,
+        visited .visit-reference .kept .1 .1 .1 .1 .1 .0 ∙ after-loop .loop .inv .3,
         after-loop .loop .inv .4 ∙ each-go _ _ (after-loop .loop .i) _ _ (after-loop-test .loop-test .taken)
-            (Cells.turn-goes _ _ _ _ _ _ _ _ (after-loop .loop .i) (world (after-loop .loop .next) (after-loop .loop .out) (after-loop .loop .counts) (after-loop .loop .marks))
-            (world (after-visit-reference .visit-reference .result) (after-visit-reference .visit-reference .last .1 .1 .1 .1 .1 .0) (after-visit-reference .visit-reference .last .1 .1 .1 .1 .1 .1 .0) (after-visit-reference .visit-reference .last .1 .1 .1 .1 .1 .1 .1 .0))
-            (after-cell-reference-at .cell-reference-at .result)
-            (sym (after-detail-budget-exhausted .detail-budget-exhausted .ensures (start .args .query) (start .args .hidden .now)) ∙ after-if2 .if2 .left)
-            (after-cell-reference-at .cell-reference-at .ensures) (after-visit-reference .visit-reference .ensures)),
+            (Cells.turn-goes (a .sheet .now) (a .fixed) (a .hidden .now) (a .depth) (open-cell after-loop) (after-loop .loop .i) (world (after-loop .loop .next) (after-loop .loop .out) (after-loop .loop .counts) (after-loop .loop .marks))
+            (world (visited .visit-reference .result) (visited .visit-reference .last .1 .1 .1 .0) (visited .visit-reference .last .1 .1 .1 .1 .0) (visited .visit-reference .last .1 .1 .1 .1 .1 .0))
+            (read .cell-reference-at .result)
+            (sym (asked .detail-budget-exhausted .ensures (a .hidden .now)) ∙ after-if2 .if2 .left)
+            (read .cell-reference-at .ensures) (visited .visit-reference .ensures)),
       )
 
   -- however the loop ends, the cell is closed, and its visit is over
-  closed : (c : lts.At-loop (visit-cell-claims t) (visit-cell-at t) visit-cell.Post Inv-loop μ-loop) (plan : ScenePlan) (o k m m′ : List ℕ)
-      → let after-push-items = c .before .before .before .before in
-      let after-enter-cell = after-push-items .before .before .before .before .before .before .before .before .before in
-      let start = after-enter-cell .before .before .before .before .before .before .before .before .before .before .before .before in
-      let query = queryOf (start .args .query) (start .args .hidden .now) (start .args .object-limit) in
-      let turn = Cells.turn (start .args .sheet .now) (start .args .cells) query (start .args .depth) (start .args .cell) (after-enter-cell .before .before .before .before .at .given .0 .0) (start .args .transform) (after-enter-cell .enter-cell .result .bounds) in
-      ending (each turn (after-push-items .push-items .result .references - c .loop .i) (c .loop .i) (world (c .loop .next) (c .loop .out) (c .loop .counts) (c .loop .marks))) ≡ world plan o k m
-      → m′ ≡ set m (openPlace (start .args .cells) (start .args .cell)) 0
-      → world plan o k m′ ≡ visitCell noTag onTape (sheetOf (start .args .sheet .now)) (start .args .cells) query (start .args .depth) tt (start .args .cell) (start .args .transform) (world (start .args .plan) (start .args .out .now) (start .args .counts .now) (start .args .marks .now))
+  closed : (c : Head) (plan : ScenePlan) (o k m m′ : List ℕ)
+      → let a = entry c .args in
+      ending (each (Cells.turn (a .sheet .now) (a .fixed) (a .hidden .now) (a .depth) (open-cell c)) (listed c .push-items .result .references - c .loop .i) (c .loop .i) (world (c .loop .next) (c .loop .out) (c .loop .counts) (c .loop .marks))) ≡ world plan o k m
+      → m′ ≡ set m (openPlace (a .fixed .counts .cells) (a .cell)) 0
+      → world plan o k m′ ≡ visitCell (sheetOf (a .sheet .now)) (a .fixed) (a .hidden .now) (a .depth) (a .cell) (a .transform) (world (a .plan) (a .out .now) (a .counts .now) (a .marks .now))
   closed c plan o k m m′ ended removed =
-      let after-push-items = c .before .before .before .before in
-      let after-if1 = after-push-items .before .before in
-      let after-enter-cell = after-if1 .before .before .before .before .before .before .before in
-      let after-at = after-enter-cell .before .before .before .before in
-      let after-find = after-at .before .before in
-      let start = after-find .before .before .before .before .before .before in
-      let sheet = sheetOf (start .args .sheet .now) in
-      let query = queryOf (start .args .query) (start .args .hidden .now) (start .args .object-limit) in
-      let visit = visitReference noTag onTape sheet (start .args .cells) query (start .args .depth) in
-      let marks = after-enter-cell .enter-cell .last .1 .1 .1 .1 .1 .0 in
-      Cells.cell-visited (start .args .sheet .now) (start .args .cells) query (start .args .depth) (start .args .cell) (start .args .transform)
-      (world (start .args .plan) (start .args .out .now) (start .args .counts .now) (start .args .marks .now))
-      (after-at .at .given .0 .0) (sym (after-find .find .ensures) ∙ after-at .at .given .1) (after-enter-cell .enter-cell .result .goes) (after-enter-cell .enter-cell .result .bounds)
-      (world (after-enter-cell .enter-cell .result .plan) (after-enter-cell .enter-cell .last .1 .1 .1 .1 .0) (start .args .counts .now) marks)
-      (after-enter-cell .enter-cell .ensures sheet (start .args .hidden .now) visit (start .args .counts .now)) (after-if1 .if1 .left)
-      (after-push-items .push-items .result .references) (world (after-push-items .push-items .result .plan) (after-push-items .push-items .last .1 .1 .1 .1 .0) (start .args .counts .now) marks)
-      plan o k m m′ (after-push-items .push-items .ensures (start .args .cells) visit (start .args .counts .now) marks) (ap ending (c .loop .inv .4) ∙ ended) removed
+      let l = listed c in
+      let e = entered l in
+      let at-at = e .before .before .before .before .before in
+      let s = entry c in
+      let a = s .args in
+      Cells.cell-visited (a .sheet .now) (a .fixed) (a .hidden .now) (a .depth) (a .cell) (a .transform) _
+      (at-at .at .given .0 .0) (sym (looked e .look-up .ensures) ∙ at-at .at .given .1) (e .before .before .before .cell-at .result) (e .before .before .before .cell-at .ensures) (e .enter-cell .result) _
+      (e .enter-cell .ensures (sheetOf (a .sheet .now)) (a .hidden .now) (visit s) (cellRecordWith (a .sheet .now) (at-at .at .given .0 .0) (e .before .before .before .cell-at .result)) (a .counts .now) refl)
+      (l .before .before .if1 .left) (l .push-items .result .references) _ plan o k m m′
+      (l .push-items .ensures (visit s) (a .counts .now) (e .enter-cell .last .1 .1 .0)) (ap ending (c .loop .inv .4) ∙ ended) removed
 
   pub exhausted-keeps-length : lts.Need-same-length-3 (visit-cell-claims t) (visit-cell-at t) visit-cell.Post Inv-loop μ-loop
   exhausted-keeps-length c =
-      let after-add-load-if-boxed = c .before .before .before .before .before .before in
-      let after-loop = after-add-load-if-boxed .before .before .before .before .before in
-      let after-push-items = after-loop .before .before .before .before in
-      let after-enter-cell = after-push-items .before .before .before .before .before .before .before .before .before in
-      after-add-load-if-boxed .add-load-if-boxed .kept .0 ∙ after-loop .loop .inv .1 ∙ after-push-items .push-items .kept .1 .1 .1 .1 .0 ∙ after-enter-cell .enter-cell .kept .1 .1 .1 .1 .0
+      let loaded = c .before .before .before .before .before .before in
+      let after-loop = loaded .before .before .before .before .before in
+      let l = listed after-loop in
+      loaded .load-cell .kept .0 ∙ after-loop .loop .inv .1 ∙ l .push-items .kept .1 .1 .1 .0 ∙ entered l .enter-cell .kept .1 .0
 
   pub exhausted : lts.Need-returns-3 (visit-cell-claims t) (visit-cell-at t) visit-cell.Post Inv-loop μ-loop
   exhausted c =
-      let after-stack-remove = c .before .before in
-      let after-add-load-if-boxed = after-stack-remove .before .before .before .before in
-      let after-if2 = after-add-load-if-boxed .before .before in
-      let after-detail-budget-exhausted = after-if2 .before in
-      let after-loop-test = after-detail-budget-exhausted .before in
+      let removed = c .before .before in
+      let loaded = removed .before .before .before .before in
+      let after-if2 = loaded .before .before in
+      let asked = after-if2 .before in
+      let after-loop-test = asked .before in
       let after-loop = after-loop-test .before in
-      let start = after-loop .before .before .before .before .before .before .before .before .before .before .before .before .before .before .before .before .before .before .before .before .before .before .before .before .before in
-      let boxed = world (after-add-load-if-boxed .add-load-if-boxed .result) (after-add-load-if-boxed .add-load-if-boxed .last .0) (after-loop .loop .counts) (after-loop .loop .marks) in
-      closed after-loop (boxed .state) (boxed .out) (after-loop .loop .counts) (after-loop .loop .marks) (after-stack-remove .stack-remove .last .0)
+      let a = entry after-loop .args in
+      let boxed = world (loaded .load-cell .result) (loaded .load-cell .last .0) (after-loop .loop .counts) (after-loop .loop .marks) in
+      closed after-loop (boxed .state) (boxed .out) (after-loop .loop .counts) (after-loop .loop .marks) (removed .stack-remove .last .0)
       (ap ending (each-halt _ _ (after-loop .loop .i) _ boxed (after-loop-test .loop-test .taken)
-      (Cells.turn-exhausted _ _ _ _ _ _ _ _ (after-loop .loop .i) (world (after-loop .loop .next) (after-loop .loop .out) (after-loop .loop .counts) (after-loop .loop .marks)) boxed
-      (sym (after-detail-budget-exhausted .detail-budget-exhausted .ensures (start .args .query) (start .args .hidden .now)) ∙ after-if2 .if2 .taken)
-      (after-add-load-if-boxed .add-load-if-boxed .ensures (after-loop .loop .counts) (after-loop .loop .marks)))))
-      (after-stack-remove .stack-remove .ensures)
+      (Cells.turn-exhausted (a .sheet .now) (a .fixed) (a .hidden .now) (a .depth) (open-cell after-loop) (after-loop .loop .i) (world (after-loop .loop .next) (after-loop .loop .out) (after-loop .loop .counts) (after-loop .loop .marks)) boxed
+      (sym (asked .detail-budget-exhausted .ensures (a .hidden .now)) ∙ after-if2 .if2 .taken)
+      (loaded .load-cell .ensures (after-loop .loop .counts) (after-loop .loop .marks)))))
+      (removed .stack-remove .ensures)
 
   pub ended : lts.Need-returns-4 (visit-cell-claims t) (visit-cell-at t) visit-cell.Post Inv-loop μ-loop
   ended c =
-      let after-stack-remove2 = c .before .before in
-      let after-loop-test = after-stack-remove2 .before .before in
+      let removed = c .before .before in
+      let after-loop-test = removed .before .before in
       let after-loop = after-loop-test .before in
-      closed after-loop (after-loop .loop .next) (after-loop .loop .out) (after-loop .loop .counts) (after-loop .loop .marks) (after-stack-remove2 .stack-remove2 .last .0)
+      closed after-loop (after-loop .loop .next) (after-loop .loop .out) (after-loop .loop .counts) (after-loop .loop .marks) (removed .stack-remove2 .last .0)
       (ap ending (each-done _ _ (after-loop .loop .i) _ (after-loop-test .loop-test .left)))
-      (after-stack-remove2 .stack-remove2 .ensures)
+      (removed .stack-remove2 .ensures)

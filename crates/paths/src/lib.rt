@@ -1,0 +1,1 @@
+// Paths, square sheets and true boxes: definitions and their laws. No code.

@@ -1,0 +1,81 @@
+// The format of a sheet's records: the offset of each field of document 01's table, each where the field before it ends.
+// `specs/Format.antt` has the table; the proof of each reader holds these to it.
+
+// "whole length (4 bytes), kind (2), body"
+const BODY: usize = 6;
+
+// The floats of a point and of a box, side by side.
+pub const POINT: usize = 16;
+
+const BOX: usize = 32;
+
+// 1 batch
+pub const GEOMETRY_LAYER: usize = BODY;
+
+pub const GEOMETRY_DATA_TYPE: usize = GEOMETRY_LAYER + 2;
+
+pub const ELEMENT_COUNT: usize = GEOMETRY_DATA_TYPE + 2;
+
+pub const GEOMETRY_BOX: usize = ELEMENT_COUNT + 4;
+
+pub const GEOMETRY_END: usize = GEOMETRY_BOX + BOX;
+
+// 2 text; its value bytes follow
+pub const TEXT_LAYER: usize = BODY;
+
+pub const TEXT_DATA_TYPE: usize = TEXT_LAYER + 2;
+
+pub const TEXT_ORIGIN: usize = TEXT_DATA_TYPE + 2;
+
+pub const TEXT_END: usize = TEXT_ORIGIN + POINT;
+
+// 3 node; its points follow
+pub const NODE_LAYER: usize = BODY;
+
+pub const NODE_TYPE: usize = NODE_LAYER + 2;
+
+pub const NODE_END: usize = NODE_TYPE + 2;
+
+// 4 reference
+pub const COLUMNS: usize = BODY;
+
+pub const ROWS: usize = COLUMNS + 2;
+
+pub const REFERENCE_FLAGS: usize = ROWS + 2;
+
+pub const SOURCE_KIND: usize = REFERENCE_FLAGS + 2;
+
+pub const SOURCE_NUMBER: usize = SOURCE_KIND + 2;
+
+pub const REFERENCE_ORIGIN: usize = SOURCE_NUMBER + 4;
+
+pub const SPACING_X: usize = REFERENCE_ORIGIN + POINT;
+
+pub const SPACING_Y: usize = SPACING_X + POINT;
+
+pub const MAGNIFICATION: usize = SPACING_Y + POINT;
+
+pub const COS: usize = MAGNIFICATION + 8;
+
+pub const SIN: usize = COS + 8;
+
+pub const SOURCE_BOX: usize = SIN + 8;
+
+pub const REFERENCE_END: usize = SOURCE_BOX + BOX;
+
+// 5 cell; the numbers of its lists follow
+pub const CELL_FLAGS: usize = BODY;
+
+pub const DRAW_UNITS: usize = CELL_FLAGS + 2;
+
+pub const CELL_BOX: usize = DRAW_UNITS + 8;
+
+pub const GEOMETRY_COUNT: usize = CELL_BOX + BOX;
+
+pub const TEXT_COUNT: usize = GEOMETRY_COUNT + 2;
+
+pub const NODE_COUNT: usize = TEXT_COUNT + 2;
+
+pub const REFERENCE_COUNT: usize = NODE_COUNT + 2;
+
+pub const CELL_END: usize = REFERENCE_COUNT + 2;
