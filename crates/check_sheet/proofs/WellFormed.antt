@@ -10,16 +10,12 @@ pub mod Linked
 pub mod Named
 pub mod Limits
 pub mod Finite
-use Prim.Native.Nat.{ℕ}
-use mathlib.Core.List.{List}
-use Rattle.abstract_sheet.specs.Sheet.{sheetOf}
-use Rattle.check_sheet.specs.Valid.{Valid}
-use Rattle.check_sheet.specs.WellFormed.{WellFormed}
+use Rattle.check_sheet.specs.WellFormed.{ValidIsWellFormed}
 use Rattle.check_sheet.proofs.WellFormed.Named.{cell-named, source-named}
 use Rattle.check_sheet.proofs.WellFormed.Limits.{few-cells, reference-limits, node-limits}
 use Rattle.check_sheet.proofs.WellFormed.Finite.{geometry-finite, text-finite, node-finite, grid-finite, source-box-finite, cell-box-finite}
 
-pub valid-well-formed : (s : List ℕ) → Valid s → WellFormed (sheetOf s)
+pub valid-well-formed : ValidIsWellFormed
 valid-well-formed s valid =
     record {
       cell-named = cell-named s valid;

@@ -3,6 +3,7 @@
 use mathlib.Core.Path.{_≡_}
 use mathlib.Core.Bool.{true}
 use mathlib.Core.Option.{some}
+use mathlib.Core.List.{List}
 use Prim.Native.Nat.{ℕ, _≤_, _<_}
 use lib.Ieee.{Float}
 use Rattle.floats.specs.Order.{isFinite}
@@ -15,8 +16,9 @@ use Rattle.records.specs.declared.PreparedGeometry.{PreparedGeometry}
 use Rattle.records.specs.declared.PreparedText.{PreparedText}
 use Rattle.records.specs.declared.PreparedSource.the-variants.{Reference, Cell}
 use Rattle.records.specs.declared.PreparedReference.{PreparedReference}
-use Rattle.abstract_sheet.specs.Sheet.{Sheet, NodeRecord, CellRecord, Kind, kindNumber, item, numbers, source}
+use Rattle.abstract_sheet.specs.Sheet.{Sheet, NodeRecord, CellRecord, Kind, kindNumber, item, numbers, source, sheetOf}
 use Rattle.abstract_sheet.specs.Lookup.{Exists}
+use Rattle.check_sheet.specs.Valid.{Valid}
 
 -- ---- Question 7: "Does every number in a cell, and every source but a cell source, name an existing record, and a reference source an earlier one?"
 
@@ -84,3 +86,7 @@ pub record WellFormed (t : Sheet) : Type 0 where
   pub grid-finite : (n : ℕ) (r : PreparedReference) → t .reference n ≡ some r → FiniteGrid (r .grid)
   pub source-box-finite : (n : ℕ) (r : PreparedReference) → t .reference n ≡ some r → FiniteBounds (r .«source_bbox»)
   pub cell-box-finite : (n : ℕ) (c : CellRecord) → t .cell n ≡ some c → FiniteBounds (c .bbox)
+
+-- a sheet that passes questions 1 to 7 is well formed
+abbrev pub ValidIsWellFormed : Type 0
+ValidIsWellFormed = (s : List ℕ) → Valid s → WellFormed (sheetOf s)

@@ -52,7 +52,7 @@ pub record Brought (q : Query) : Type 0 where
   -- question 10 lets a plan ask for at most 32
   pub depth : q .depth ≤ 48
 
--- whatever stands in the lent marks and counts
+-- whatever stands in the lent counts and marks
 abbrev pub Demand3OfRules : Type 0
 Demand3OfRules = (S : Sheet) → Square S → TrueBoxes S → FewMembers S → (q : Query) → Brought q → (cells : ℕ) (counts marks : List ℕ) → LosesNothing S q (events S cells q counts marks)
 

@@ -30,7 +30,7 @@ abbrev pub withPaths : List (List Step × Event) → Trace
 withPaths [] = []
 withPaths (x ∷ l) = (pathOf (x .0), x .1) ∷ withPaths l
 
--- the events of the plan of a sheet with so many cells, whatever stands in the lent marks and counts
+-- the events of the plan of a sheet with so many cells, whatever stands in the lent counts and marks
 abbrev pub events : Sheet → ℕ → Query → List ℕ → List ℕ → Trace
 events S cells q counts marks = withPaths ((plan enter note S cells q [] (world emptyPlan [] counts marks)) .out)
 

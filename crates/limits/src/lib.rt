@@ -18,14 +18,17 @@ const MAX_TEXT_INSTANCES: u64 = 10_000;
 
 pub const MAX_LOAD_PROXIES: u64 = 100_000;
 
+// "Totals stop at 2^64 - 1."
+pub const MAX_TOTAL: u64 = 0xffff_ffff_ffff_ffff;
+
 // Totals stop at 2^64 - 1: the Rust's `saturating_add`.
 pub fn saturating_add(a: u64, b: u64) -> u64
     ensures { λ r. ⌜ r ≡ a ⊞ b ⌝ }
 {
-    if a <= 0xffff_ffff_ffff_ffff - b {
+    if a <= MAX_TOTAL - b {
         return a + b;
     }
-    0xffff_ffff_ffff_ffff
+    MAX_TOTAL
 }
 
 // `self.plan.stats.detail_cells >= MAX_DETAIL_CELLS`

@@ -1,4 +1,4 @@
-// The look-up by number: the one door through which the planner finds a record. Another way to find records comes in here.
+// The look-up by number: the planner finds every record here, so that another way to find records is added in one place.
 ghost use mathlib.Core.Path.{_≡_};
 ghost use Rattle.look_up.specs.Look.{look};
 use walk::Found;

@@ -14,7 +14,7 @@ use Rattle.records.specs.declared.PreparedReference.{PreparedReference}
 use Rattle.abstract_sheet.specs.Sheet.{NodeRecord, CellRecord, Sheet}
 use Rattle.plan_rules.specs.declared.ScenePlan.{ScenePlan}
 use Rattle.plan_rules.specs.Event.{Event, Step, member, after}
-use Rattle.plan_rules.specs.World.{Query, World, world, Flow, ending}
+use Rattle.plan_rules.specs.World.{Query, World, Flow, ending}
 use Rattle.plan_rules.specs.Push.{pushPoint}
 use Rattle.plan_rules.specs.Visit.{VisitReference, VisitSource, geometryStep, textStep, nodeStep, referenceStep, visitSourceWith, memberStep, columnStep, visitReference}
 use Rattle.plan_rules.specs.Plan.{plan}

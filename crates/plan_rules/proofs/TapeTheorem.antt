@@ -24,6 +24,7 @@ use Rattle.plan_rules.specs.Tape.{putRecord, noTag, onTape, note, tape}
 use Rattle.plan_rules.proofs.Simulation.{Related, the-relation, same-state}
 use Rattle.plan_rules.proofs.Simulation.Premises.{Room, no-premises}
 use Rattle.plan_rules.proofs.Simulation.Visits.{plan-sim}
+use Rattle.plan_rules.specs.Statements.{WritesItsTape}
 
 -- ---- a record's length is what its event adds to the tape's end
 
@@ -135,3 +136,7 @@ module _ {P : Type 0} (enter : Step → P → P) (S : Sheet) (cells : ℕ) (q : 
 
   pub same-output-length : length (run .out) ≡ length o
   same-output-length = the-relation (Run o) (one-run {P = P} o enter S cells q t k m) .same-length
+
+-- the statement of specs/Statements: without tags
+pub writes-its-tape : WritesItsTape
+writes-its-tape S cells q o k m = the-tape noTag S cells q tt o k m

@@ -1,4 +1,4 @@
--- Draw units: `reference_draw_units`, `source_draw_units` and `cell_draw_units` of bevy_scene.rs, over the lent marks and counts.
+-- Draw units: `reference_draw_units`, `source_draw_units` and `cell_draw_units` of bevy_scene.rs, over the lent counts and marks.
 -- Document 01: "Draw units follow `cell_draw_units`, whose remembered counts are consulted first, even where an open circle made them."
 -- One function recurses, on the depth: depth falls by one from a reference to its source.
 -- Definitions only; rests on the abstract sheet, `Event` (saturation) and `Scratch`.
@@ -16,7 +16,7 @@ use Rattle.abstract_sheet.specs.Sheet.{CellRecord, Sheet}
 use Rattle.plan_rules.specs.Event.{saturate, _⊞_}
 use Rattle.plan_rules.specs.Scratch.{countingPlace, rememberedPlace, countPlace, isMarked}
 
--- a count, and the marks and the counts after it
+-- a count, and the counts and the marks after it
 pub record Units : Type 0 where
   pub units : ℕ
   pub counts : List ℕ

@@ -15,6 +15,7 @@
 --     MappedPlan   a plan over these maps and sets
 --     Samples      small sheets and queries
 --     Readings     the readings at the edges that document 01 marks P
+--     Statements   what is proved of the rules, as types
 -- Definitions only; the facts about them are in proofs/.
 pub mod Limits
 pub mod Event
@@ -32,3 +33,4 @@ pub mod Maps
 pub mod MappedPlan
 pub mod Samples
 pub mod Readings
+pub mod Statements

@@ -38,8 +38,8 @@ gridUnits columns rows units =
     .units
 
 -- does it collapse at depth 2 and zoom 1, if its box is so wide and so high?
-abbrev pub collapses : ℕ → ℕ → ℕ → Float → Float → Bool
-collapses columns rows units width height =
+abbrev pub referenceCollapses : ℕ → ℕ → ℕ → Float → Float → Bool
+referenceCollapses columns rows units width height =
     let size = screenSize (bbox (whole 0) (whole 0) width height) (whole 1) in
     shouldCollapseReference (size .width) (size .height) (members columns rows) (gridUnits columns rows units) 2 false
 
@@ -108,15 +108,15 @@ readings =
     -- "Grid 64 × 128 = 8,192 may expand": with the units that such a grid has, one a member, it does at 1,000 × 1,000 px
     (members 64 128 ≡ 8192)
     ∷ (gridUnits 64 128 1 ≡ 8192)
-    ∷ (collapses 64 128 1 (whole 1000) (whole 1000) ≡ false)
+    ∷ (referenceCollapses 64 128 1 (whole 1000) (whole 1000) ≡ false)
     -- "3 × 2,731 = 8,193 collapses": at every size, with any units, at every depth
     ∷ (members 3 2731 ≡ 8193)
     ∷ ((w h : Float) (units depth : ℕ) (force : Bool) → shouldCollapseReference w h 8193 units depth force ≡ true)
     -- "Units 127 are never dense": at no size do they collapse a reference that no other test collapses
     ∷ ((w h : Float) (members depth : ℕ) → lt w (whole 24) || lt h (whole 24) ≡ false → members ≤ 8192 → 1 < depth → shouldCollapseReference w h members 127 depth false ≡ false)
     -- "Units 128 at 64 × 32 px (16 each) collapse, at 64 × 33 px not."
-    ∷ (collapses 1 1 128 (whole 64) (whole 32) ≡ true)
-    ∷ (collapses 1 1 128 (whole 64) (whole 33) ≡ false)
+    ∷ (referenceCollapses 1 1 128 (whole 64) (whole 32) ≡ true)
+    ∷ (referenceCollapses 1 1 128 (whole 64) (whole 33) ≡ false)
     -- "A batch of 128 at 64 × 32 px becomes a proxy; 127 is listed."
     ∷ (batchBecomes 128 (page 64 32) (whole 1) ≡ proxies 1)
     ∷ (batchBecomes 127 (page 64 32) (whole 1) ≡ objects 1)
@@ -128,8 +128,8 @@ readings =
     ∷ (membersBecome (page 2 1) half ≡ proxies 4)
     ∷ (membersBecome (page 1 2) half ≡ proxies 4)
     -- "Side 24 px passes"
-    ∷ (collapses 1 1 1 (whole 24) (whole 100) ≡ false)
-    ∷ (collapses 1 1 1 (whole 100) (whole 24) ≡ false)
+    ∷ (referenceCollapses 1 1 1 (whole 24) (whole 100) ≡ false)
+    ∷ (referenceCollapses 1 1 1 (whole 100) (whole 24) ≡ false)
     -- "anything below collapses": either side, whatever the other side, the grid, the units and the depth
     ∷ ((w h : Float) (members units depth : ℕ) (force : Bool) → lt w (whole 24) || lt h (whole 24) ≡ true → shouldCollapseReference w h members units depth force ≡ true)
     -- "Count 16,777,217 becomes 16,777,216 as f32; 16,777,219 becomes 16,777,220": 2^24, and 4,194,305 × 2^2

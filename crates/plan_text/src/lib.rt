@@ -6,7 +6,6 @@ mod piece; // the pieces of a line
 mod line; // one line for each record of the tape, and for a refusal
 mod lines; // the lines of a tape, as many as there is room for
 
-pub use line::put_line;
 pub use line::put_refused;
 pub use lines::Lines;
 pub use lines::put_lines;

@@ -2,4 +2,4 @@
 pub mod Answers  -- question 12, by code path
 pub mod Sweep  -- the visits on zeroed scratch
 pub mod Delivered  -- the answer is the outcome that the rules define
-pub mod Corollaries  -- demand 3 of the bytes that `plan` writes
+pub mod Corollaries  -- demands 2 and 3 of what a call leaves

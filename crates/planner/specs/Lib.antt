@@ -1,6 +1,6 @@
 -- What the contracts of `planner` cite besides the rules.
---     Answered   question 12, by the tape's end
---     Swept      the visits on scratch that is zeroed before and after
+--     Answered       question 12, by the tape's end
+--     Swept          the visits on scratch that is zeroed before and after
 --     LosesNothing   demands 2 and 3 of a call: what its proofs state
 -- Definitions only. Assumes nothing.
 pub mod Answered

@@ -9,7 +9,7 @@ use Rattle.plan_rules.specs.World.{Query, World, world}
 use Rattle.plan_rules.specs.Plan.{visitRoot}
 use Rattle.plan_rules.specs.Tape.{noTag, onTape}
 
--- what the visits leave, from an empty plan and that many zeroed marks and counts
+-- what the visits leave, from an empty plan and that many zeroed counts and marks
 unfoldable pub visited : Sheet → ℕ → Query → List ℕ → ℕ → ℕ → World (List ℕ)
 visited S cells q o counts marks = visitRoot noTag onTape S cells q (q .depth) tt (world emptyPlan o (replicate counts 0) (replicate marks 0))
 

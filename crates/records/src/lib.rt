@@ -1,5 +1,5 @@
 // The records of a sheet: their types, under the Rust's names, and the readers at a record's offset.
-// Every reader is total: what lies past the end of the bytes is read as zeros.
+// Every public reader is total: what lies past the end of the bytes is read as zeros.
 use geometry::bbox::Bounds;
 use geometry::bbox::WorldBBox;
 use geometry::grid::Grid;

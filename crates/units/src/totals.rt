@@ -1,4 +1,5 @@
 // Products that stop at 2^64 - 1: the Rust's `saturating_mul` of u64; and a member's share of one.
+use limits::MAX_TOTAL;
 ghost use mathlib.Core.Path.{_≡_};
 ghost use Prim.Native.Nat.{_*_, max};
 ghost use Rattle.plan_rules.specs.Event.{saturate};
@@ -10,10 +11,10 @@ fn saturating_mul(a: u64, b: u64) -> u64
     if a == 0 {
         return 0;
     }
-    if b <= 18446744073709551615 / a {
+    if b <= MAX_TOTAL / a {
         return a * b;
     }
-    18446744073709551615
+    MAX_TOTAL
 }
 
 // The units of a grid of `count` members, each of at least one: `count.saturating_mul(source_count.max(1))`.

@@ -29,20 +29,20 @@ pub fn enter_cell(
 {
     let bounds = geometry::bbox::transform_bounds(transform, bbox);
     if geometry::bbox::is_outside(bounds, fixed.options.view) {
-        return left(plan, bounds);
+        return over(plan, bounds);
     }
     let cells = fixed.counts.cells;
     if limits::detail_cells_full(plan) {
         let boxed = pushes::add_load_if_boxed(out, plan, Reason::CellLimit, cell, bounds);
-        return left(boxed, bounds);
+        return over(boxed, bounds);
     }
     if limits::detail_budget_exhausted(fixed, plan) {
         let boxed = pushes::add_load_if_boxed(out, plan, Reason::OtherLimit, cell, bounds);
-        return left(boxed, bounds);
+        return over(boxed, bounds);
     }
     if scratch::stack_contains(marks, cells, scratch::CELL_STACK, cell) {
         let boxed = pushes::add_load_if_boxed(out, plan, Reason::Circle, cell, bounds);
-        return left(boxed, bounds);
+        return over(boxed, bounds);
     }
     scratch::stack_insert(marks, cells, scratch::CELL_STACK, cell);
     let opened = pushes::count_detail_cell(plan);
@@ -54,7 +54,7 @@ pub fn enter_cell(
 }
 
 // Nothing is left to do of the cell.
-fn left(plan: ScenePlan, bounds: Bounds) -> Entered
+fn over(plan: ScenePlan, bounds: Bounds) -> Entered
     ensures { λ r. ⌜ (r .plan ≡ plan) × (r .goes ≡ false) ⌝ }
 {
     Entered {

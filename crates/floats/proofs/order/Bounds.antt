@@ -1,6 +1,6 @@
 -- A float is finite where it lies strictly between the two infinities. Assumes nothing.
 use mathlib.Core.Path.{_≡_, refl, sym, subst}
-use mathlib.Core.Bool.{Bool, true, false, true≢false, false≢true}
+use mathlib.Core.Bool.{true, false, true≢false, false≢true}
 use lib.Ieee.{Float, nan, inf, fin, binary32, binary64, lt, neg, div, ofBits}
 use Rattle.floats.specs.Order.{isFinite}
 

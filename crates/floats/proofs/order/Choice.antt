@@ -1,7 +1,7 @@
 -- The three tests of `f64_min`, `f64_max` and `f32_max` choose as `passOverNan` does: one law for both widths and both directions. Assumes nothing.
 use mathlib.Core.Path.{_≡_, sym, _∙_}
 use mathlib.Core.Bool.{Bool, cond}
-use lib.Ieee.{Float, isNan, ne}
+use lib.Ieee.{Float, ne}
 use Rattle.floats.specs.Order.{passOverNan}
 use Rattle.floats.proofs.Nans.{differs-is-nan}
 

@@ -17,7 +17,7 @@ use Rattle.plan_rules.specs.DrawUnits.{Units, cellDrawUnits}
 use Rattle.plan_rules.specs.Push.{addLoad}
 use Rattle.plan_rules.specs.Tape.{noTag}
 use Rattle.plan_rules.specs.Samples.{whole, page, sheetOfLists, cellOf, viewing}
-use Rattle.plan_rules.specs.Readings.{collapses, nothing}
+use Rattle.plan_rules.specs.Readings.{referenceCollapses, nothing}
 use Rattle.plan_rules.proofs.Cases.Opened.{opened}
 
 -- what the rules answer, and what they should
@@ -47,9 +47,9 @@ lessThan24 bits = fin false (24 * 2 ^ bits - 1) (negsuc (bits - 1))
 
 pub narrowing : List Case
 narrowing =
-    is (answer (collapses 1 1 1 (lessThan24 19) (whole 100))) 1
-    ∷ is (answer (collapses 1 1 1 (whole 100) (lessThan24 19))) 1
-    ∷ is (answer (collapses 1 1 1 (lessThan24 21) (whole 100))) 0
+    is (answer (referenceCollapses 1 1 1 (lessThan24 19) (whole 100))) 1
+    ∷ is (answer (referenceCollapses 1 1 1 (whole 100) (lessThan24 19))) 1
+    ∷ is (answer (referenceCollapses 1 1 1 (lessThan24 21) (whole 100))) 0
     ∷ []
 
 pub all-narrowing : map rulesOf narrowing ≡ map paperOf narrowing

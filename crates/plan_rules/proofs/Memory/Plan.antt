@@ -42,6 +42,7 @@ use Rattle.plan_rules.specs.Maps.{Maps, emptyMaps, opened, Tally, mapped
 use Rattle.plan_rules.proofs.Memory.Faithful.{Agree, CellsBelow, open-agree, reference-same}
 use Rattle.plan_rules.proofs.Memory.Start.{fresh-agree, cells-below}
 use Rattle.plan_rules.specs.MappedPlan.{emitBeside, withMaps, visitMappedCell, visitMappedSource, visitMappedBoxed, visitMappedSourced, visitMappedFound, visitMappedReference, visitMappedRoot, mappedPlan}
+use Rattle.plan_rules.specs.Statements.{TapeOverMaps}
 
 module _ {P A : Type 0} (enter : Step → P → P) (emit : P → Event → ℕ → A → A) (S : Sheet) (n D : ℕ) (numbered : CellsBelow n S) (q : Query) where
   abbrev beside : P → Event → ℕ → A × Maps → A × Maps
@@ -319,6 +320,6 @@ plan-over-maps enter emit S n numbered q t o =
     (same-state enter emit S n (q .depth) numbered q h, same-out enter emit S n (q .depth) numbered q h)
 
 -- the tape of a sheet's bytes is that of the plan over maps
-pub tape-over-maps : (s : List ℕ) (q : Query) → tapeOf (sheetOf s) (countOf s 5) q ≡ tape ((mappedPlan noTag note (sheetOf s) q tt []) .out .0)
+pub tape-over-maps : TapeOverMaps
 unfolding tapeOf
 tape-over-maps s q = ap tape (plan-over-maps noTag note (sheetOf s) (countOf s 5) (cells-below s) q tt [] .1)

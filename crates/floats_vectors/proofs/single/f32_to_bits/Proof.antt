@@ -1,6 +1,5 @@
 -- `floats_vectors::single::f32_to_bits` meets its contract. Assumes nothing.
 use mathlib.Core.Path.{_≡_, refl, sym, ap, _∙_, subst}
-use Prim.Native.Nat.{ℕ, _^_, _<_}
 use native.Mathlib.Nat.{lt-of-lt-of-le}
 use lib.Dec.{T, lit≤}
 use lib.Ieee.{nan, binary32, fits, toBits}

@@ -33,7 +33,7 @@ outside : tie.Need-returns
 outside c =
     let asked = c .before .before in
     λ S hidden visit d k e.
-    is-over _ _ _ _ _ k _ (c .left .ensures)
+    is-over _ _ _ _ _ k _ (c .over .ensures)
     ∙ cell-outside S _ _ visit _ _ d _ _ (placed (asked .before) _ e) (sym (asked .is-outside .ensures) ∙ c .before .if1 .taken)
 
 full : tie.Need-returns-2
@@ -43,7 +43,7 @@ full c =
     let else1 = asked .before in
     let b = else1 .before .before in
     λ S hidden visit d k e.
-    is-over _ _ _ _ _ k _ (c .left2 .ensures)
+    is-over _ _ _ _ _ k _ (c .over2 .ensures)
     ∙ cell-detail-full S _ _ visit _ _ d _ _ (placed b _ e) (inside else1) (sym (asked .detail-cells-full .ensures) ∙ added .before .before .if2 .taken) _ (added .add-load-if-boxed .ensures k _)
 
 exhausted : tie.Need-returns-3
@@ -54,7 +54,7 @@ exhausted c =
     let else1 = else2 .before .before in
     let b = else1 .before .before in
     λ S hidden visit d k e.
-    is-over _ _ _ _ _ k _ (c .left3 .ensures)
+    is-over _ _ _ _ _ k _ (c .over3 .ensures)
     ∙ cell-exhausted S _ _ visit _ _ d _ _ (placed b _ e) (inside else1) (sym (else2 .before .detail-cells-full .ensures) ∙ else2 .if2 .left)
     (sym (asked .detail-budget-exhausted .ensures hidden) ∙ added .before .before .if3 .taken) _ (added .add-load-if-boxed2 .ensures k _)
 
@@ -67,7 +67,7 @@ met-again c =
     let else1 = else2 .before .before in
     let b = else1 .before .before in
     λ S hidden visit d k e.
-    is-over _ _ _ _ _ k _ (c .left4 .ensures)
+    is-over _ _ _ _ _ k _ (c .over4 .ensures)
     ∙ cell-open S _ _ visit _ _ d _ _ (placed b _ e) (inside else1) (sym (else2 .before .detail-cells-full .ensures) ∙ else2 .if2 .left)
     (sym (else3 .before .detail-budget-exhausted .ensures hidden) ∙ else3 .if3 .left)
     (sym (asked .stack-contains .ensures) ∙ added .before .before .if4 .taken) _ (added .add-load-if-boxed3 .ensures k _)
