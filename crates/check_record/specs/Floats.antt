@@ -8,7 +8,7 @@ use Rattle.floats.specs.Order.{isFinite}
 use Rattle.fields.specs.Field.{f64At}
 use Rattle.walk.specs.Offsets.{lengthAt, kindAt}
 use Rattle.records.specs.Format as field
-use Rattle.records.specs.Format.{f, geometry, node, reference, cell, offsetIn, endOf}
+use Rattle.records.specs.Format.{f, geometry, text, node, reference, cell, offsetIn, widthIn, endOf}
 use Rattle.check_record.specs.Tests.{every}
 
 -- the float at an offset is finite
@@ -26,7 +26,12 @@ floatsFrom kind =
 
 -- how many there are: a batch's box, a text's origin, a node's points, what a reference has from its origin to its source box, a cell's box
 unfoldable pub floatsCount : ℕ → ℕ → ℕ
-floatsCount kind n = cond (eqb kind 1) 4 (cond (eqb kind 2) 2 (cond (eqb kind 3) ((n - endOf node) / f) (cond (eqb kind 4) 13 4)))
+floatsCount kind n =
+    cond (eqb kind 1) (widthIn geometry field.box / f)
+    (cond (eqb kind 2) (widthIn text field.origin / f)
+    (cond (eqb kind 3) ((n - endOf node) / f)
+    (cond (eqb kind 4) ((endOf reference - offsetIn reference field.origin) / f)
+    (widthIn cell field.box / f))))
 
 unfoldable pub floatsOk : List ℕ → ℕ → Bool
-floatsOk s at = every (finiteAt s) 8 (floatsCount (kindAt s at) (lengthAt s at)) (at + floatsFrom (kindAt s at))
+floatsOk s at = every (finiteAt s) f (floatsCount (kindAt s at) (lengthAt s at)) (at + floatsFrom (kindAt s at))

@@ -6,7 +6,7 @@ use mathlib.Core.Bool.{Bool, false, cond}
 use lib.Dec.{leb, eqb}
 use Rattle.walk.specs.Offsets.{lengthAt, kindAt}
 use Rattle.records.specs.Format as field
-use Rattle.records.specs.Format.{f, geometry, text, node, reference, cell, endOf, fieldAt}
+use Rattle.records.specs.Format.{f, numberWidth, geometry, text, node, reference, cell, endOf, fieldAt}
 use Rattle.check_record.specs.Tests.{both}
 
 -- a cell's "counts of batches, texts, nodes, references 2 each", together
@@ -25,4 +25,4 @@ lengthOk kind n =
 
 -- with a cell's 56 + 4n
 unfoldable pub shapeOk : List ℕ → ℕ → Bool
-shapeOk s at = cond (eqb (kindAt s at) 5) (eqb (lengthAt s at) (endOf cell + 4 * listsAt s at)) (lengthOk (kindAt s at) (lengthAt s at))
+shapeOk s at = cond (eqb (kindAt s at) 5) (eqb (lengthAt s at) (endOf cell + numberWidth * listsAt s at)) (lengthOk (kindAt s at) (lengthAt s at))

@@ -1,19 +1,19 @@
 -- Question 4 of document 01, of the record at an offset: "Are columns and rows at most 32,767, spare flag bits zero, absent boxes zero,
 -- the source kind 1 to 5, and a cell source below FFFFFFFF (hexadecimal)?" Only a reference and a cell have such fields.
 -- Definitions only. Assumes nothing.
-use Prim.Native.Nat.{ℕ, _+_, _/_, _%_}
+use Prim.Native.Nat.{ℕ, _+_, _*_, _/_, _%_}
 use mathlib.Core.List.{List}
 use mathlib.Core.Bool.{Bool, true, cond}
 use lib.Dec.{ltb, leb, eqb}
 use Rattle.fields.specs.Field.{uintAt}
 use Rattle.walk.specs.Offsets.{kindAt}
 use Rattle.records.specs.Format as field
-use Rattle.records.specs.Format.{reference, cell, offsetIn, fieldAt}
+use Rattle.records.specs.Format.{f, reference, cell, offsetIn, fieldAt}
 use Rattle.check_record.specs.Tests.{both}
 
 -- "An absent box is 32 zero bytes."
 unfoldable pub zeroBox : List ℕ → ℕ → Bool
-zeroBox s at = eqb (uintAt 32 s at) 0
+zeroBox s at = eqb (uintAt (4 * f) s at) 0
 
 -- "the source kind 1 to 5, and a cell source below FFFFFFFF (hexadecimal)"
 unfoldable pub sourceOk : ℕ → ℕ → Bool

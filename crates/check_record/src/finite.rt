@@ -6,33 +6,37 @@ ghost use lib.ListN.{length};
 ghost use lib.Ieee.{binary64, ofBits};
 ghost use Rattle.floats.specs.Order.{isFinite};
 ghost use Rattle.walk.specs.Offsets.{Whole};
-ghost use Rattle.records.specs.Format.{node, endOf};
+ghost use Rattle.records.specs.Format.{f, node, endOf};
 ghost use Rattle.check_record.specs.Tests.{every};
 ghost use Rattle.check_record.specs.Shape.{shapeOk};
 ghost use Rattle.check_record.specs.Floats.{finiteAt, floatsFrom, floatsCount, floatsOk};
+use fields::KIND;
+use records::format::BOX;
 use records::format::CELL_BOX;
+use records::format::FLOAT;
 use records::format::GEOMETRY_BOX;
 use records::format::NODE_END;
+use records::format::POINT;
+use records::format::REFERENCE_END;
 use records::format::REFERENCE_ORIGIN;
-use walk::KIND;
 
 // Whether a pattern is that of a finite float: its exponent field is not all ones.
-pub fn finite_bits(n: u64) -> bool
+fn finite_bits(n: u64) -> bool
     ensures { λ r. ⌜ r ≡ isFinite (ofBits binary64 n) ⌝ }
 {
     n % 0x8000_0000_0000_0000 / 0x10_0000_0000_0000 != 2047
 }
 
 // Whether `count` floats side by side are finite.
-pub fn all_finite(s: &[u8], from: usize, count: usize) -> bool
-    requires { ⌜ from + 8 * count ≤ length (now s) ⌝ }
-    ensures { λ r. ⌜ r ≡ every (finiteAt (now (s .entry))) 8 count from ⌝ }
+fn all_finite(s: &[u8], from: usize, count: usize) -> bool
+    requires { ⌜ from + f * count ≤ length (now s) ⌝ }
+    ensures { λ r. ⌜ r ≡ every (finiteAt (now (s .entry))) f count from ⌝ }
 {
     let mut at = from;
     let mut left = count;
     while 0 < left {
         if finite_bits(fields::u64_within(s, at)) {
-            at += 8;
+            at += FLOAT;
             left -= 1;
         } else {
             return false;
@@ -41,7 +45,7 @@ pub fn all_finite(s: &[u8], from: usize, count: usize) -> bool
     true
 }
 
-pub fn floats_from(kind: u16) -> usize
+fn floats_from(kind: u16) -> usize
     ensures { λ r. ⌜ r ≡ floatsFrom kind ⌝ }
 {
     match kind {
@@ -52,16 +56,23 @@ pub fn floats_from(kind: u16) -> usize
     }
 }
 
-pub fn floats_count(kind: u16, n: usize) -> usize
+// How many floats a point and a box have, and a reference from its origin to its end.
+const POINT_FLOATS: usize = POINT / FLOAT;
+
+const BOX_FLOATS: usize = BOX / FLOAT;
+
+const REFERENCE_FLOATS: usize = (REFERENCE_END - REFERENCE_ORIGIN) / FLOAT;
+
+fn floats_count(kind: u16, n: usize) -> usize
     requires { ⌜ endOf node ≤ n ⌝ }
     ensures { λ r. ⌜ r ≡ floatsCount kind n ⌝ }
 {
     match kind {
-        1 => 4,
-        2 => 2,
-        3 => (n - NODE_END) / 8,
-        4 => 13,
-        _ => 4,
+        1 => BOX_FLOATS,
+        2 => POINT_FLOATS,
+        3 => (n - NODE_END) / FLOAT,
+        4 => REFERENCE_FLOATS,
+        _ => BOX_FLOATS,
     }
 }
 

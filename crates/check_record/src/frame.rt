@@ -1,6 +1,7 @@
 // Question 2.
 ghost use mathlib.Core.Path.{_≡_};
 ghost use Rattle.check_record.specs.Frame.{frameOk};
+use fields::HEAD;
 
 // "Are 6 bytes left, and is the length at least 6 and within the sheet?"
 pub fn frame_ok(s: &[u8], at: usize) -> bool
@@ -10,11 +11,11 @@ pub fn frame_ok(s: &[u8], at: usize) -> bool
         return false;
     }
     let left = s.len() - at;
-    if left < 6 {
+    if left < HEAD {
         return false;
     }
     let length = fields::u32_within(s, at) as usize;
-    if length < 6 {
+    if length < HEAD {
         return false;
     }
     if left < length {

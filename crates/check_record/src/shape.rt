@@ -5,20 +5,21 @@ ghost use lib.ListN.{length};
 ghost use Rattle.walk.specs.Offsets.{Whole};
 ghost use Rattle.records.specs.Format.{cell, endOf};
 ghost use Rattle.check_record.specs.Shape.{listsAt, lengthOk, shapeOk};
+use fields::KIND;
 use records::format::CELL_END;
 use records::format::GEOMETRY_COUNT;
 use records::format::GEOMETRY_END;
 use records::format::NODE_COUNT;
 use records::format::NODE_END;
+use records::format::NUMBER;
 use records::format::POINT;
 use records::format::REFERENCE_COUNT;
 use records::format::REFERENCE_END;
 use records::format::TEXT_COUNT;
 use records::format::TEXT_END;
-use walk::KIND;
 
 // How many numbers a cell's four lists have together.
-pub fn lists_at(s: &[u8], at: usize) -> u32
+fn lists_at(s: &[u8], at: usize) -> u32
     requires { ⌜ at + endOf cell ≤ length (now s) ⌝ }
     ensures { λ r. ⌜ r ≡ listsAt (now (s .entry)) at ⌝ }
 {
@@ -37,7 +38,7 @@ const NODE_LEAST: usize = NODE_END + POINT;
 const NODE_MOST: usize = NODE_END + 50 * POINT;
 
 // Whether the length n is right for a kind other than a cell's.
-pub fn length_ok(kind: u16, n: usize) -> bool
+fn length_ok(kind: u16, n: usize) -> bool
     ensures { λ r. ⌜ r ≡ lengthOk kind n ⌝ }
 {
     match kind {
@@ -71,7 +72,7 @@ pub fn shape_ok(s: &[u8], at: usize) -> bool
             return false;
         }
         let numbers = lists_at(s, at) as usize;
-        n == CELL_END + 4 * numbers
+        n == CELL_END + NUMBER * numbers
     } else {
         length_ok(kind, n)
     }

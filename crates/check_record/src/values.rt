@@ -1,41 +1,49 @@
 // Question 4.
 ghost use mathlib.Core.Path.{_≡_};
 ghost use mathlib.Core.Bool.{true};
-ghost use Prim.Native.Nat.{_+_, _≤_};
+ghost use Prim.Native.Nat.{_+_, _*_, _≤_};
 ghost use lib.ListN.{length};
 ghost use Rattle.walk.specs.Offsets.{Whole};
-ghost use Rattle.records.specs.Format.{reference, cell, endOf};
+ghost use Rattle.records.specs.Format.{f, reference, cell, endOf};
 ghost use Rattle.check_record.specs.Shape.{shapeOk};
 ghost use Rattle.check_record.specs.Values.{zeroBox, sourceOk, gridOk, referenceOk, cellOk, valuesOk};
+use fields::KIND;
 use records::format::CELL_BOX;
 use records::format::CELL_FLAGS;
 use records::format::COLUMNS;
+use records::format::FLOAT;
 use records::format::REFERENCE_FLAGS;
 use records::format::ROWS;
 use records::format::SOURCE_BOX;
 use records::format::SOURCE_KIND;
 use records::format::SOURCE_NUMBER;
-use walk::KIND;
+
+// Where the floats of a box stand behind its first.
+const MIN_Y: usize = FLOAT;
+
+const MAX_X: usize = 2 * FLOAT;
+
+const MAX_Y: usize = 3 * FLOAT;
 
 // "An absent box is 32 zero bytes."
-pub fn zero_box(s: &[u8], at: usize) -> bool
-    requires { ⌜ at + 32 ≤ length (now s) ⌝ }
+fn zero_box(s: &[u8], at: usize) -> bool
+    requires { ⌜ at + 4 * f ≤ length (now s) ⌝ }
     ensures { λ r. ⌜ r ≡ zeroBox (now (s .entry)) at ⌝ }
 {
     if fields::u64_within(s, at) != 0 {
         return false;
     }
-    if fields::u64_within(s, at + 8) != 0 {
+    if fields::u64_within(s, at + MIN_Y) != 0 {
         return false;
     }
-    if fields::u64_within(s, at + 16) != 0 {
+    if fields::u64_within(s, at + MAX_X) != 0 {
         return false;
     }
-    fields::u64_within(s, at + 24) == 0
+    fields::u64_within(s, at + MAX_Y) == 0
 }
 
 // "the source kind 1 to 5, and a cell source below FFFFFFFF (hexadecimal)"
-pub fn source_ok(kind: u16, number: u32) -> bool
+fn source_ok(kind: u16, number: u32) -> bool
     ensures { λ r. ⌜ r ≡ sourceOk kind number ⌝ }
 {
     if kind < 1 {
@@ -52,7 +60,7 @@ pub fn source_ok(kind: u16, number: u32) -> bool
 }
 
 // What is asked of a reference's numbers, where it is known whether its source is right and whether its box is all zero.
-pub fn grid_ok(columns: u16, rows: u16, flags: u16, source: bool, zeros: bool) -> bool
+fn grid_ok(columns: u16, rows: u16, flags: u16, source: bool, zeros: bool) -> bool
     ensures { λ r. ⌜ r ≡ gridOk columns rows flags source zeros ⌝ }
 {
     if 32767 < columns {
@@ -71,7 +79,7 @@ pub fn grid_ok(columns: u16, rows: u16, flags: u16, source: bool, zeros: bool) -
     }
 }
 
-pub fn reference_ok(s: &[u8], at: usize) -> bool
+fn reference_ok(s: &[u8], at: usize) -> bool
     requires { ⌜ at + endOf reference ≤ length (now s) ⌝ }
     ensures { λ r. ⌜ r ≡ referenceOk (now (s .entry)) at ⌝ }
 {
@@ -86,7 +94,7 @@ pub fn reference_ok(s: &[u8], at: usize) -> bool
     grid_ok(columns, rows, flags, source, zeros)
 }
 
-pub fn cell_ok(s: &[u8], at: usize) -> bool
+fn cell_ok(s: &[u8], at: usize) -> bool
     requires { ⌜ at + endOf cell ≤ length (now s) ⌝ }
     ensures { λ r. ⌜ r ≡ cellOk (now (s .entry)) at ⌝ }
 {

@@ -8,7 +8,7 @@ use lib.Dec.{ltb, eqb}
 use Rattle.fields.specs.Field.{uintAt}
 use Rattle.walk.specs.Offsets.{kindAt}
 use Rattle.records.specs.Format as field
-use Rattle.records.specs.Format.{reference, cell, endOf, fieldAt}
+use Rattle.records.specs.Format.{numberWidth, reference, cell, endOf, fieldAt}
 use Rattle.check_record.specs.Tests.{both, every}
 use Rattle.check_sheet.specs.declared.Counts.{Counts}
 
@@ -31,10 +31,10 @@ listsNamed s c at =
     let texts = fieldAt cell field.textCount s at in
     let nodes = fieldAt cell field.nodeCount s at in
     let references = fieldAt cell field.referenceCount s at in
-    both (every (belowAt s (c .geometries)) 4 geometries (at + endOf cell))
-    (both (every (belowAt s (c .texts)) 4 texts (at + endOf cell + 4 * geometries))
-    (both (every (belowAt s (c .nodes)) 4 nodes (at + endOf cell + 4 * (geometries + texts)))
-    (every (belowAt s (c .references)) 4 references (at + endOf cell + 4 * (geometries + texts + nodes)))))
+    both (every (belowAt s (c .geometries)) numberWidth geometries (at + endOf cell))
+    (both (every (belowAt s (c .texts)) numberWidth texts (at + endOf cell + numberWidth * geometries))
+    (both (every (belowAt s (c .nodes)) numberWidth nodes (at + endOf cell + numberWidth * (geometries + texts)))
+    (every (belowAt s (c .references)) numberWidth references (at + endOf cell + numberWidth * (geometries + texts + nodes)))))
 
 -- own is the number that a reference here has
 unfoldable pub linkOk : List ℕ → Counts → ℕ → ℕ → Bool

@@ -4,7 +4,7 @@ ghost use Prim.Native.Nat.{_+_, _*_, _≤_};
 ghost use lib.ListN.{length};
 ghost use Rattle.walk.specs.Offsets.{offsets};
 ghost use Rattle.walk.specs.Every.{All};
-ghost use Rattle.records.specs.Format.{cell, endOf};
+ghost use Rattle.records.specs.Format.{numberWidth, cell, endOf};
 ghost use Rattle.check_record.specs.Tests.{every};
 ghost use Rattle.check_record.specs.Shape.{listsAt};
 ghost use Rattle.check_record.specs.Record.{Right};
@@ -14,25 +14,26 @@ ghost use Rattle.check_sheet.specs.Check.{firstUnnamed};
 use crate::Checked;
 use crate::Counts;
 use crate::scan::tally;
+use fields::KIND;
 use records::format::CELL_END;
 use records::format::GEOMETRY_COUNT;
 use records::format::NODE_COUNT;
+use records::format::NUMBER;
 use records::format::REFERENCE_COUNT;
 use records::format::SOURCE_KIND;
 use records::format::SOURCE_NUMBER;
 use records::format::TEXT_COUNT;
-use walk::KIND;
 
 // Whether `count` numbers side by side are below a bound.
-pub fn all_below(s: &[u8], from: usize, count: usize, bound: u32) -> bool
-    requires { ⌜ from + 4 * count ≤ length (now s) ⌝ }
-    ensures { λ r. ⌜ r ≡ every (belowAt (now (s .entry)) bound) 4 count from ⌝ }
+fn all_below(s: &[u8], from: usize, count: usize, bound: u32) -> bool
+    requires { ⌜ from + numberWidth * count ≤ length (now s) ⌝ }
+    ensures { λ r. ⌜ r ≡ every (belowAt (now (s .entry)) bound) numberWidth count from ⌝ }
 {
     let mut at = from;
     let mut left = count;
     while 0 < left {
         if fields::u32_within(s, at) < bound {
-            at += 4;
+            at += NUMBER;
             left -= 1;
         } else {
             return false;
@@ -42,7 +43,7 @@ pub fn all_below(s: &[u8], from: usize, count: usize, bound: u32) -> bool
 }
 
 // Whether a source names an existing record, and a reference source one before its own number. A cell source may name any.
-pub fn source_named(kind: u16, number: u32, c: Counts, own: u32) -> bool
+fn source_named(kind: u16, number: u32, c: Counts, own: u32) -> bool
     ensures { λ r. ⌜ r ≡ sourceNamed kind number c own ⌝ }
 {
     match kind {
@@ -55,8 +56,8 @@ pub fn source_named(kind: u16, number: u32, c: Counts, own: u32) -> bool
 }
 
 // Whether every number in a cell names an existing record.
-pub fn lists_named(s: &[u8], c: Counts, at: usize) -> bool
-    requires { ⌜ at + endOf cell + 4 * listsAt (now s) at ≤ length (now s) ⌝ }
+fn lists_named(s: &[u8], c: Counts, at: usize) -> bool
+    requires { ⌜ at + endOf cell + numberWidth * listsAt (now s) at ≤ length (now s) ⌝ }
     ensures { λ r. ⌜ r ≡ listsNamed (now (s .entry)) c at ⌝ }
 {
     let geometries = fields::u16_within(s, at + GEOMETRY_COUNT) as usize;
@@ -64,11 +65,16 @@ pub fn lists_named(s: &[u8], c: Counts, at: usize) -> bool
     let nodes = fields::u16_within(s, at + NODE_COUNT) as usize;
     let references = fields::u16_within(s, at + REFERENCE_COUNT) as usize;
     if all_below(s, at + CELL_END, geometries, c.geometries) {
-        if all_below(s, at + CELL_END + 4 * geometries, texts, c.texts) {
-            if all_below(s, at + CELL_END + 4 * (geometries + texts), nodes, c.nodes) {
+        if all_below(s, at + CELL_END + NUMBER * geometries, texts, c.texts) {
+            if all_below(
+                s,
+                at + CELL_END + NUMBER * (geometries + texts),
+                nodes,
+                c.nodes,
+            ) {
                 all_below(
                     s,
-                    at + CELL_END + 4 * (geometries + texts + nodes),
+                    at + CELL_END + NUMBER * (geometries + texts + nodes),
                     references,
                     c.references,
                 )
@@ -84,7 +90,7 @@ pub fn lists_named(s: &[u8], c: Counts, at: usize) -> bool
 }
 
 // Whether what the record names exists, where `own` is the number that a reference here has.
-pub fn link_ok(s: &[u8], c: Counts, own: u32, at: usize) -> bool
+fn link_ok(s: &[u8], c: Counts, own: u32, at: usize) -> bool
     requires { ⌜ Right (now s) at ⌝ }
     ensures { λ r. ⌜ r ≡ linkOk (now (s .entry)) c own at ⌝ }
 {

@@ -8,7 +8,7 @@ ghost use Rattle.check_sheet.specs.Count.{countsOf, tallied, counted, At
 ghost use Rattle.check_sheet.specs.Check.{firstNo};
 use crate::Checked;
 use crate::Counts;
-use walk::KIND;
+use fields::KIND;
 
 // n, and one more where a record is of the kind k.
 pub fn tally(n: u32, kind: u16, k: u16) -> u32

@@ -7,6 +7,13 @@ ghost use lib.ListN.{length};
 ghost use lib.Seq.{sets};
 ghost use Rattle.fields.specs.Field.{uintAt, uintBytes, f64At, f64Bytes};
 
+// ---- the head of a record: "whole length (4 bytes), kind (2), body"
+
+// Where the kind stands, and where the body begins. The readers of records prove these equal to `Head`.
+pub const KIND: usize = 4;
+
+pub const HEAD: usize = KIND + 2;
+
 // ---- reading
 
 pub fn byte_at(s: &[u8], at: usize) -> u8

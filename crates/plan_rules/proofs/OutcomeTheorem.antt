@@ -21,7 +21,7 @@ use Rattle.plan_rules.specs.Scratch.{countsNamed, marksNamed}
 use Rattle.plan_rules.specs.Tape.{noTag, onTape}
 use Rattle.plan_rules.specs.Questions.{queryRefusal}
 use Rattle.plan_rules.specs.Outcome.{Outcome, outcome, freshPlan, tapeOf, zeroed, delivered, soundOutcome, checkedOutcome, outcomeOf}
-use Rattle.plan_rules.proofs.TapeTheorem.{fits-by-end, exceeds-by-end, the-tape}
+use Rattle.plan_rules.proofs.TapeTheorem.{same-output-length, fits-by-end, exceeds-by-end, the-tape}
 
 -- ---- questions 1 to 7
 
@@ -46,6 +46,10 @@ module _ (S : Sheet) (cells : ℕ) (q : Query) (o k m : List ℕ) where
   -- the run that writes, from zeroed scratch
   abbrev pub written : World (List ℕ)
   written = freshPlan noTag onTape S cells q tt o
+
+  pub written-length : length (written .out) ≡ length o
+  unfolding freshPlan
+  written-length = same-output-length noTag S cells q tt o (replicate nk 0) (replicate nm 0)
 
   delivered-planned : length o < maxTotal → written .state .«tape_end» ≤ length o → delivered (tapeOf S cells q) nk nm o k m ≡ outcome (Planned (written .state .«tape_end»)) (written .out) (zeroed nk k) (zeroed nm m)
   unfolding delivered tapeOf freshPlan

@@ -6,6 +6,7 @@ use mathlib.Core.List.{List, [], _∷_}
 use Prim.Native.Nat.{ℕ, zero, suc, _+_, min}
 use lib.Dec.{eqb}
 use Rattle.fields.specs.Field.{Field, uint, f64, widths, recordBytes}
+use Rattle.fields.specs.Head.{sizeWidth, kindWidth, headWidth}
 use Rattle.geometry.specs.declared.placement.DVec2.{DVec2}
 use Rattle.geometry.specs.declared.bbox.WorldBBox.{WorldBBox}
 use Rattle.geometry.specs.declared.placement.Placement.{Placement}
@@ -40,7 +41,7 @@ pub data Step : Type 0 where
 
 -- "whole length (4 bytes), kind (2), body"
 abbrev pub header : ℕ → List Field → List Field
-header kind body = uint 4 (6 + widths body) ∷ uint 2 kind ∷ body
+header kind body = uint sizeWidth (headWidth + widths body) ∷ uint kindWidth kind ∷ body
 
 -- a proxy's record, which does not say why
 abbrev pub proxyFields : ℕ → WorldBBox → List Field

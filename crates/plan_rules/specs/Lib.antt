@@ -8,9 +8,9 @@
 --     Visit        `visit_cell`, `visit_reference`, `visit_source`
 --     Plan         `plan`, and the totals
 --     Tape         the code's end of the rules, bytes, and the proofs', events
---     OnTape       the rules at the code's end, by the names that the planner's contracts cite
 --     Questions    questions 8 to 11, of the query and the lent scratch: the number of the first no
 --     Outcome      the whole outcome of a call: questions 1 to 12, the tape, and every lent place
+--     OnTape       the rules at the code's end, by the names that the planner's contracts cite
 --     Maps         the draw units over the Rust's maps and sets: the lent scratch stands for them
 --     MappedPlan   a plan over these maps and sets
 --     Samples      small sheets and queries
@@ -26,9 +26,9 @@ pub mod Push
 pub mod Visit
 pub mod Plan
 pub mod Tape
-pub mod OnTape
 pub mod Questions
 pub mod Outcome
+pub mod OnTape
 pub mod Maps
 pub mod MappedPlan
 pub mod Samples

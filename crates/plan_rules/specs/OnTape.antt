@@ -1,31 +1,50 @@
--- The rules at the code's end: no tag, bytes on the lent tape, and by value what does not change during a plan.
--- The planner's contracts cite these names: what a call leaves equals the definition of the same name.
+-- The rules at the code's end: no tag, bytes on the lent tape, and what a plan is given, by one name.
+-- The planner's contracts cite these names: what a call leaves equals the definition of the same name. No crate above names the rules' two ends.
 -- Definitions only; rests on the rules and on what a reference denotes.
 use mathlib.Core.Path.{_≡_}
 use mathlib.Core.Bool.{Bool}
 use mathlib.Core.List.{List}
-use Prim.Native.Nat.{ℕ}
+use mathlib.Core.Option.{Option}
+use Prim.Native.Nat.{ℕ, zero, suc}
 use denote.Ref.{RefT}
 use Rattle.geometry.specs.declared.bbox.WorldBBox.{WorldBBox}
 use Rattle.geometry.specs.declared.bbox.Bounds.{Bounds}
 use Rattle.geometry.specs.declared.placement.Placement.{Placement}
 use Rattle.records.specs.declared.PreparedSource.{PreparedSource}
-use Rattle.abstract_sheet.specs.Sheet.{NodeRecord, Sheet}
+use Rattle.records.specs.declared.PreparedReference.{PreparedReference}
+use Rattle.abstract_sheet.specs.Sheet.{NodeRecord, CellRecord, Sheet, sheetOf}
 use Rattle.plan_rules.specs.declared.ScenePlan.{ScenePlan}
 use Rattle.plan_rules.specs.declared.Fixed.{Fixed}
 use Rattle.plan_rules.specs.declared.Reason.{Reason}
 use Rattle.plan_rules.specs.Event.{Event}
-use Rattle.plan_rules.specs.World.{Query, queryOf, World, world, Flow, flow}
+use Rattle.plan_rules.specs.World.{Query, queryOf, World, world, Flow, go, flow, each}
+use Rattle.plan_rules.specs.DrawUnits.{Units}
 use Rattle.plan_rules.specs.Push as push
 use Rattle.plan_rules.specs.Visit as visit
 use Rattle.plan_rules.specs.Plan as plan
 use Rattle.plan_rules.specs.Tape.{noTag, onTape}
+use Rattle.plan_rules.specs.Outcome as outcome
 
--- ---- what a call is handed, and what it leaves
+-- ---- what a plan is given and does not change
 
 -- the query of a plan, with the hidden layers that are lent beside it
 abbrev pub fixedQuery : Fixed → List ℕ → Query
 fixedQuery f hidden = queryOf (f .options) hidden (f .«object_limit»)
+
+-- besides what goes by value: the sheet and the hidden layers
+pub record Given (f : Fixed) : Type 0 where
+  pub sheet : Sheet
+  pub hidden : List ℕ
+
+-- by a sheet's bytes
+abbrev pub givenBytes : (f : Fixed) → List ℕ → List ℕ → Given f
+givenBytes f s hidden = record { sheet = sheetOf s; hidden = hidden }
+
+-- as they are lent
+abbrev pub given : (f : Fixed) → RefT (List ℕ) → RefT (List ℕ) → Given f
+given f sheet hidden = givenBytes f (sheet .now) (hidden .now)
+
+-- ---- what a call is handed, and what it leaves
 
 abbrev pub Output : Type 0
 Output = World (List ℕ)
@@ -53,35 +72,111 @@ addLoad why label box w = push.addLoad noTag onTape tt why label box w
 abbrev pub addLoadIfBoxed : Reason → ℕ → Bounds → Output → Output
 addLoadIfBoxed why label box w = push.addLoadIfBoxed noTag onTape tt why label box w
 
--- ---- pushes and visits
+abbrev pub haltWithCell : ℕ → Bounds → Flow (List ℕ) → Flow (List ℕ)
+haltWithCell n box x = visit.haltWithCell noTag onTape tt n box x
 
-module _ (S : Sheet) (f : Fixed) (hidden : List ℕ) where
+abbrev pub haltWithMember : ℕ → WorldBBox → Flow (List ℕ) → Flow (List ℕ)
+haltWithMember l box x = visit.haltWithMember noTag onTape tt l box x
+
+module _ {f : Fixed} (g : Given f) where
+  abbrev pub query : Query
+  query = fixedQuery f (g .hidden)
+
+  -- ---- pushes
+
   abbrev pub pushGeometry : ℕ → Placement → Output → Output
-  pushGeometry n p w = push.pushGeometry noTag onTape S (fixedQuery f hidden) tt n p w
+  pushGeometry = push.pushGeometry noTag onTape (g .sheet) query tt
 
   abbrev pub pushText : ℕ → Placement → Output → Output
-  pushText n p w = push.pushText noTag onTape S (fixedQuery f hidden) tt n p w
+  pushText = push.pushText noTag onTape (g .sheet) query tt
 
   abbrev pub pushPoint : Placement → NodeRecord → ℕ → Output → Flow (List ℕ)
-  pushPoint p x j w = push.pushPoint noTag onTape S (fixedQuery f hidden) tt p x j w
+  pushPoint = push.pushPoint noTag onTape (g .sheet) query tt
+
+  abbrev pub pushPoints : Placement → NodeRecord → Output → Flow (List ℕ)
+  pushPoints p x w = each (pushPoint p x) (x .count) 0 w
 
   abbrev pub pushNode : ℕ → Placement → Output → Flow (List ℕ)
-  pushNode n p w = push.pushNode noTag onTape S (fixedQuery f hidden) tt n p w
+  pushNode = push.pushNode noTag onTape (g .sheet) query tt
+
+  -- ---- the steps of the visits, given how a reference or a source is visited
 
   abbrev pub VisitReference : Type 0
-  VisitReference = visit.VisitReference noTag onTape S (f .counts .cells) (fixedQuery f hidden)
+  VisitReference = visit.VisitReference noTag onTape (g .sheet) (f .counts .cells) query
 
   abbrev pub VisitSource : Type 0
-  VisitSource = visit.VisitSource noTag onTape S (f .counts .cells) (fixedQuery f hidden)
+  VisitSource = visit.VisitSource noTag onTape (g .sheet) (f .counts .cells) query
+
+  module _ (n : ℕ) (c : CellRecord) (p : Placement) (box : Bounds) where
+    abbrev pub geometryStep : ℕ → Output → Flow (List ℕ)
+    geometryStep = visit.geometryStep noTag onTape (g .sheet) (f .counts .cells) query tt n c p box
+
+    abbrev pub textStep : ℕ → Output → Flow (List ℕ)
+    textStep = visit.textStep noTag onTape (g .sheet) (f .counts .cells) query tt n c p box
+
+    abbrev pub nodeStep : ℕ → Output → Flow (List ℕ)
+    nodeStep = visit.nodeStep noTag onTape (g .sheet) (f .counts .cells) query tt n c p box
+
+    abbrev pub referenceStep : VisitReference → ℕ → Output → Flow (List ℕ)
+    referenceStep = visit.referenceStep noTag onTape (g .sheet) (f .counts .cells) query tt n c p box
+
+    abbrev pub cellBody : VisitReference → Output → Flow (List ℕ)
+    cellBody = visit.cellBody noTag onTape (g .sheet) (f .counts .cells) query tt n c p box
+
+  abbrev pub visitFoundCell : VisitReference → ℕ → Placement → Option CellRecord → Output → Output
+  visitFoundCell on n p c w = visit.visitFoundCell noTag onTape (g .sheet) (f .counts .cells) query on tt n p c w
+
+  module _ (on : VisitSource) (depth : ℕ) (r : PreparedReference) (p : Placement) where
+    module _ (sourceBox worldBox : WorldBBox) where
+      abbrev pub memberStep : ℕ → ℕ → ℕ → Output → Flow (List ℕ)
+      memberStep = visit.memberStep noTag onTape (g .sheet) (f .counts .cells) query on depth tt r p sourceBox worldBox
+
+      abbrev pub columnStep : ℕ → ℕ → Output → Flow (List ℕ)
+      columnStep = visit.columnStep noTag onTape (g .sheet) (f .counts .cells) query on depth tt r p sourceBox worldBox
+
+      abbrev pub visitCountedReference : Units → Output → Output
+      visitCountedReference = visit.visitCountedReference noTag onTape (g .sheet) (f .counts .cells) query on depth tt r p sourceBox worldBox
+
+    abbrev pub visitBoxedReference : WorldBBox → Bounds → Output → Output
+    visitBoxedReference = visit.visitBoxedReference noTag onTape (g .sheet) (f .counts .cells) query on depth tt r p
+
+    abbrev pub visitSourcedReference : Bounds → Output → Output
+    visitSourcedReference = visit.visitSourcedReference noTag onTape (g .sheet) (f .counts .cells) query on depth tt r p
+
+  abbrev pub visitFoundReference : VisitSource → ℕ → Placement → Option PreparedReference → Output → Output
+  visitFoundReference on depth p r w = visit.visitFoundReference noTag onTape (g .sheet) (f .counts .cells) query on depth tt p r w
+
+  -- ---- the visits at a depth, and a plan
+
+  abbrev pub onReference : ℕ → VisitReference
+  onReference depth = visit.visitReference noTag onTape (g .sheet) (f .counts .cells) query depth
+
+  abbrev pub onSource : ℕ → VisitSource
+  onSource depth = visit.visitSource noTag onTape (g .sheet) (f .counts .cells) query depth
+
+  -- how a reference at a depth visits its source: one below; at depth 0 not at all, since a reference collapses there
+  abbrev pub onSourceBelow : ℕ → VisitSource
+  onSourceBelow zero = λ t s p w. go w
+  onSourceBelow (suc depth) = onSource depth
 
   abbrev pub visitCell : ℕ → ℕ → Placement → Output → Output
-  visitCell depth n p w = visit.visitCell noTag onTape S (f .counts .cells) (fixedQuery f hidden) depth tt n p w
+  visitCell depth = visit.visitCell noTag onTape (g .sheet) (f .counts .cells) query depth tt
 
   abbrev pub visitReference : ℕ → ℕ → Placement → Output → Output
-  visitReference depth n p w = visit.visitReference noTag onTape S (f .counts .cells) (fixedQuery f hidden) depth tt n p w
+  visitReference depth = onReference depth tt
 
   abbrev pub visitSource : ℕ → PreparedSource → Placement → Output → Flow (List ℕ)
-  visitSource depth s p w = visit.visitSource noTag onTape S (f .counts .cells) (fixedQuery f hidden) depth tt s p w
+  visitSource depth = onSource depth tt
+
+  abbrev pub loadRootBox : Bounds → Output → Output
+  loadRootBox = plan.loadRootBox noTag onTape (g .sheet) (f .counts .cells) query tt
+
+  abbrev pub loadRoot : Option CellRecord → Output → Output
+  loadRoot = plan.loadRoot noTag onTape (g .sheet) (f .counts .cells) query tt
 
   abbrev pub visitRoot : ℕ → Output → Output
-  visitRoot depth w = plan.visitRoot noTag onTape S (f .counts .cells) (fixedQuery f hidden) depth tt w
+  visitRoot depth = plan.visitRoot noTag onTape (g .sheet) (f .counts .cells) query depth tt
+
+  -- what a call answers and leaves once the sheet is known to be sound
+  abbrev pub soundOutcome : List ℕ → List ℕ → List ℕ → outcome.Outcome
+  soundOutcome = outcome.soundOutcome (g .sheet) (f .counts .cells) query

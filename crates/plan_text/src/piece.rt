@@ -28,7 +28,7 @@ pub fn put_number(text: &mut [u8], at: usize, n: u64) -> usize
     put_decimal(text, at + 1, n)
 }
 
-pub fn put_float(text: &mut [u8], at: usize, n: u64) -> usize
+fn put_float(text: &mut [u8], at: usize, n: u64) -> usize
     requires { ⌜ at + 17 ≤ length (now text) ⌝ }
     ensures { λ r. ⌜ Written 17 (now (text .entry)) at (float n) (now (text .exit)) r ⌝ }
 {

@@ -5,8 +5,7 @@ use plan_rules::Fixed;
 use plan_rules::ScenePlan;
 ghost use mathlib.Core.Path.{_≡_};
 ghost use lib.ListN.{length};
-ghost use Rattle.abstract_sheet.specs.Sheet.{sheetOf};
-ghost use Rattle.plan_rules.specs.OnTape.{lent, fixedQuery};
+ghost use Rattle.plan_rules.specs.OnTape.{given, lent};
 ghost use Rattle.planner.specs.Swept.{swept};
 
 pub fn visit_clean(
@@ -17,7 +16,7 @@ pub fn visit_clean(
     counts: &mut [u64],
     marks: &mut [u8],
 ) -> ScenePlan
-    ensures { λ r. ⌜ lent r (out .exit) (counts .exit) (marks .exit) ≡ swept (sheetOf (now (sheet .entry))) (fixed .counts .cells) (fixedQuery fixed (now (hidden .entry))) (now (out .entry)) (length (now (counts .entry))) (length (now (marks .entry))) ⌝ }
+    ensures { λ r. ⌜ lent r (out .exit) (counts .exit) (marks .exit) ≡ swept (given fixed (sheet .entry) (hidden .entry)) (now (out .entry)) (length (now (counts .entry))) (length (now (marks .entry))) ⌝ }
 {
     scratch::clear_counts(counts);
     scratch::clear_bytes(marks);

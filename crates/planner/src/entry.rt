@@ -7,11 +7,10 @@ use plan_rules::Answer;
 use plan_rules::Fixed;
 use plan_rules::SceneOptions;
 ghost use mathlib.Core.Path.{_≡_};
-ghost use Rattle.abstract_sheet.specs.Sheet.{sheetOf};
 ghost use Rattle.plan_rules.specs.Limits.{maxSceneObjects};
 ghost use Rattle.plan_rules.specs.World.{queryOf};
-ghost use Rattle.plan_rules.specs.OnTape.{fixedQuery};
-ghost use Rattle.plan_rules.specs.Outcome.{outcome, soundOutcome, outcomeOf};
+ghost use Rattle.plan_rules.specs.OnTape.{given, soundOutcome};
+ghost use Rattle.plan_rules.specs.Outcome.{outcome, outcomeOf};
 
 // Questions 8 to 12, and the plan of a sheet that passed the questions before.
 fn plan_sound(
@@ -22,7 +21,7 @@ fn plan_sound(
     counts: &mut [u64],
     marks: &mut [u8],
 ) -> Answer
-    ensures { λ r. ⌜ outcome r (now (out .exit)) (now (counts .exit)) (now (marks .exit)) ≡ soundOutcome (sheetOf (now (sheet .entry))) (fixed .counts .cells) (fixedQuery fixed (now (hidden .entry))) (now (out .entry)) (now (counts .entry)) (now (marks .entry)) ⌝ }
+    ensures { λ r. ⌜ outcome r (now (out .exit)) (now (counts .exit)) (now (marks .exit)) ≡ soundOutcome (given fixed (sheet .entry) (hidden .entry)) (now (out .entry)) (now (counts .entry)) (now (marks .entry)) ⌝ }
 {
     let cells = fixed.counts.cells;
     let depth = fixed.options.depth;

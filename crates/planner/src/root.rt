@@ -9,12 +9,11 @@ use walk::Found;
 ghost use mathlib.Core.Path.{_≡_};
 ghost use mathlib.Core.List.{List};
 ghost use Prim.Native.Nat.{ℕ};
-ghost use Rattle.abstract_sheet.specs.Sheet.{sheetOf};
-ghost use Rattle.plan_rules.specs.OnTape.{Leaves, lent, visitRoot};
+ghost use Rattle.plan_rules.specs.OnTape.{givenBytes, given, Leaves, lent, visitRoot};
 
 // "Depth 0 gives just one proxy if the root has a box that overlaps the view."
 fn load_root(sheet: &[u8], fixed: Fixed, out: &mut [u8], plan: ScenePlan) -> ScenePlan
-    ensures { λ r. ⌜ ((hidden : List ℕ) → Leaves r (out .exit) (visitRoot (sheetOf (now (sheet .entry))) fixed hidden 0) plan (out .entry)) ⌝ }
+    ensures { λ r. ⌜ ((hidden : List ℕ) → Leaves r (out .exit) (visitRoot (givenBytes fixed (now (sheet .entry)) hidden) 0) plan (out .entry)) ⌝ }
 {
     let Found::At(at) = look_up::look_up(sheet, 5, fixed.options.root) else {
         return plan;
@@ -40,7 +39,7 @@ pub fn visit_root(
     marks: &mut [u8],
     plan: ScenePlan,
 ) -> ScenePlan
-    ensures { λ r. ⌜ lent r (out .exit) (counts .exit) (marks .exit) ≡ visitRoot (sheetOf (now (sheet .entry))) fixed (now (hidden .entry)) (fixed .options .depth) (lent plan (out .entry) (counts .entry) (marks .entry)) ⌝ }
+    ensures { λ r. ⌜ lent r (out .exit) (counts .exit) (marks .exit) ≡ visitRoot (given fixed (sheet .entry) (hidden .entry)) (fixed .options .depth) (lent plan (out .entry) (counts .entry) (marks .entry)) ⌝ }
 {
     if fixed.options.depth == 0 {
         return load_root(sheet, fixed, out, plan);

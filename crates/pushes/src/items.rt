@@ -19,11 +19,8 @@ use plan_rules::Reason;
 use plan_rules::ScenePlan;
 use records::NO_LABEL;
 use walk::Found;
-ghost use mathlib.Core.List.{List};
-ghost use Prim.Native.Nat.{ℕ};
-ghost use Rattle.abstract_sheet.specs.Sheet.{Sheet, sheetOf, nodeRecordAt};
-ghost use Rattle.plan_rules.specs.World.{each};
-ghost use Rattle.plan_rules.specs.OnTape.{Leaves, LeavesFlow, pushGeometry, pushText, pushPoint, pushNode};
+ghost use Rattle.abstract_sheet.specs.Sheet.{nodeRecordAt};
+ghost use Rattle.plan_rules.specs.OnTape.{Given, given, Leaves, LeavesFlow, pushGeometry, pushText, pushPoint, pushPoints, pushNode};
 
 pub fn push_geometry(
     sheet: &[u8],
@@ -34,7 +31,7 @@ pub fn push_geometry(
     number: u32,
     transform: Placement,
 ) -> ScenePlan
-    ensures { λ r. ⌜ Leaves r (out .exit) (pushGeometry (sheetOf (now (sheet .entry))) fixed (now (hidden .entry)) number transform) plan (out .entry) ⌝ }
+    ensures { λ r. ⌜ Leaves r (out .exit) (pushGeometry (given fixed (sheet .entry) (hidden .entry)) number transform) plan (out .entry) ⌝ }
 {
     let Found::At(at) = look_up::look_up(sheet, 1, number) else {
         return plan;
@@ -70,7 +67,7 @@ pub fn push_text(
     number: u32,
     transform: Placement,
 ) -> ScenePlan
-    ensures { λ r. ⌜ Leaves r (out .exit) (pushText (sheetOf (now (sheet .entry))) fixed (now (hidden .entry)) number transform) plan (out .entry) ⌝ }
+    ensures { λ r. ⌜ Leaves r (out .exit) (pushText (given fixed (sheet .entry) (hidden .entry)) number transform) plan (out .entry) ⌝ }
 {
     let Found::At(at) = look_up::look_up(sheet, 2, number) else {
         return plan;
@@ -96,7 +93,7 @@ fn push_point(
     transform: Placement,
     i: u32,
 ) -> Visited
-    ensures { λ r. ⌜ ((S : Sheet) (hidden : List ℕ) → LeavesFlow (r .whole) (r .plan) (out .exit) (pushPoint S fixed hidden transform (nodeRecordAt (now (sheet .entry)) at) i) plan (out .entry)) ⌝ }
+    ensures { λ r. ⌜ ((g : Given fixed) → LeavesFlow (r .whole) (r .plan) (out .exit) (pushPoint g transform (nodeRecordAt (now (sheet .entry)) at) i) plan (out .entry)) ⌝ }
 {
     let position = transform.transform_point2(records::node_point_at(sheet, at, i));
     if !point_in_bbox(position, fixed.options.view) {
@@ -122,7 +119,7 @@ fn push_points(
     at: usize,
     transform: Placement,
 ) -> Visited
-    ensures { λ r. ⌜ ((S : Sheet) (hidden : List ℕ) → LeavesFlow (r .whole) (r .plan) (out .exit) (each (pushPoint S fixed hidden transform (nodeRecordAt (now (sheet .entry)) at)) (nodeRecordAt (now (sheet .entry)) at .count) 0) plan (out .entry)) ⌝ }
+    ensures { λ r. ⌜ ((g : Given fixed) → LeavesFlow (r .whole) (r .plan) (out .exit) (pushPoints g transform (nodeRecordAt (now (sheet .entry)) at)) plan (out .entry)) ⌝ }
 {
     let count = records::node_at(sheet, at).points;
     let mut next = plan;
@@ -153,7 +150,7 @@ pub fn push_node(
     number: u32,
     transform: Placement,
 ) -> Visited
-    ensures { λ r. ⌜ LeavesFlow (r .whole) (r .plan) (out .exit) (pushNode (sheetOf (now (sheet .entry))) fixed (now (hidden .entry)) number transform) plan (out .entry) ⌝ }
+    ensures { λ r. ⌜ LeavesFlow (r .whole) (r .plan) (out .exit) (pushNode (given fixed (sheet .entry) (hidden .entry)) number transform) plan (out .entry) ⌝ }
 {
     let Found::At(at) = look_up::look_up(sheet, 3, number) else {
         return Visited { plan, whole: true };

@@ -6,6 +6,7 @@ use mathlib.Core.List.{List, [], _∷_}
 use mathlib.Core.Bool.{Bool, cond}
 use lib.Dec.{eqb}
 use Rattle.fields.specs.Field.{uintAt}
+use Rattle.fields.specs.Head.{sizeWidth, kindWidth}
 
 -- ---- The table
 
@@ -22,7 +23,7 @@ f = 8
 
 -- "whole length (4 bytes), kind (2), body"
 abbrev pub headed : List Field → List Field
-headed body = (size, 4) ∷ (kind, 2) ∷ body
+headed body = (size, sizeWidth) ∷ (kind, kindWidth) ∷ body
 
 -- 1 batch: "layer 2, data type 2, element count 4, box 4 f"
 abbrev pub geometry : List Field
@@ -43,6 +44,10 @@ reference =
     headed
     ((columns, 2) ∷ (rows, 2) ∷ (flags, 2) ∷ (sourceKind, 2) ∷ (sourceNumber, 4) ∷ (origin, 2 * f) ∷ (spacingX, 2 * f) ∷ (spacingY, 2 * f)
     ∷ (magnification, f) ∷ (cos, f) ∷ (sin, f) ∷ (box, 4 * f) ∷ [])
+
+-- a number of a cell's lists: "then their numbers 4 each"
+abbrev pub numberWidth : ℕ
+numberWidth = 4
 
 -- 5 cell: "flags 2, direct draw units 8, box 4 f, counts of batches, texts, nodes, references 2 each", "then their numbers 4 each"
 abbrev pub cell : List Field

@@ -6,7 +6,7 @@ use mathlib.Core.Bool.{Bool, cond}
 use lib.Dec.{eqb}
 use Rattle.fields.specs.Field.{uintAt, f64At}
 use Rattle.records.specs.Format as field
-use Rattle.records.specs.Format.{f, geometry, text, node, reference, cell, offsetIn, endOf, fieldAt}
+use Rattle.records.specs.Format.{f, numberWidth, geometry, text, node, reference, cell, offsetIn, endOf, fieldAt}
 use Rattle.geometry.specs.declared.placement.DVec2.{DVec2}
 use Rattle.geometry.specs.declared.bbox.WorldBBox.{WorldBBox}
 use Rattle.geometry.specs.declared.bbox.Bounds.{Bounds}
@@ -136,7 +136,7 @@ referencesFrom s at = nodesFrom s at + fieldAt cell field.nodeCount s at
 
 -- the number at a place among the numbers of a cell, "4 each"
 unfoldable pub cellNumberAt : List ℕ → ℕ → ℕ → ℕ
-cellNumberAt s at place = uintAt 4 s (at + (endOf cell + 4 * place))
+cellNumberAt s at place = uintAt numberWidth s (at + (endOf cell + numberWidth * place))
 
 -- the number at a place of the list of batches, texts, nodes or references
 unfoldable pub cellGeometryAt : List ℕ → ℕ → ℕ → ℕ

@@ -9,6 +9,7 @@ use crate::format::CELL_FLAGS;
 use crate::format::DRAW_UNITS;
 use crate::format::GEOMETRY_COUNT;
 use crate::format::NODE_COUNT;
+use crate::format::NUMBER;
 use crate::format::REFERENCE_COUNT;
 use crate::format::TEXT_COUNT;
 use crate::parts::bit;
@@ -55,7 +56,7 @@ fn cell_number_at(s: &[u8], at: usize, place: usize) -> u32
     requires { ⌜ place < 8589934592 ⌝ }
     ensures { λ r. ⌜ r ≡ cellNumberAt (now (s .entry)) at place ⌝ }
 {
-    fields::u32_at(from(s, at), CELL_END + 4 * place)
+    fields::u32_at(from(s, at), CELL_END + NUMBER * place)
 }
 
 pub fn cell_geometry_at(s: &[u8], at: usize, i: u32) -> u32

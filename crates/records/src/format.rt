@@ -1,16 +1,17 @@
 // The format of a sheet's records: the offset of each field of document 01's table, each where the field before it ends.
 // `specs/Format.antt` has the table; the proof of each reader holds these to it.
 
-// "whole length (4 bytes), kind (2), body"
-const BODY: usize = 6;
+use fields::HEAD;
 
-// The floats of a point and of a box, side by side.
-pub const POINT: usize = 16;
+// A float, and the floats of a point and of a box, side by side.
+pub const FLOAT: usize = 8;
 
-const BOX: usize = 32;
+pub const POINT: usize = 2 * FLOAT;
+
+pub const BOX: usize = 4 * FLOAT;
 
 // 1 batch
-pub const GEOMETRY_LAYER: usize = BODY;
+pub const GEOMETRY_LAYER: usize = HEAD;
 
 pub const GEOMETRY_DATA_TYPE: usize = GEOMETRY_LAYER + 2;
 
@@ -21,7 +22,7 @@ pub const GEOMETRY_BOX: usize = ELEMENT_COUNT + 4;
 pub const GEOMETRY_END: usize = GEOMETRY_BOX + BOX;
 
 // 2 text; its value bytes follow
-pub const TEXT_LAYER: usize = BODY;
+pub const TEXT_LAYER: usize = HEAD;
 
 pub const TEXT_DATA_TYPE: usize = TEXT_LAYER + 2;
 
@@ -30,14 +31,14 @@ pub const TEXT_ORIGIN: usize = TEXT_DATA_TYPE + 2;
 pub const TEXT_END: usize = TEXT_ORIGIN + POINT;
 
 // 3 node; its points follow
-pub const NODE_LAYER: usize = BODY;
+pub const NODE_LAYER: usize = HEAD;
 
 pub const NODE_TYPE: usize = NODE_LAYER + 2;
 
 pub const NODE_END: usize = NODE_TYPE + 2;
 
 // 4 reference
-pub const COLUMNS: usize = BODY;
+pub const COLUMNS: usize = HEAD;
 
 pub const ROWS: usize = COLUMNS + 2;
 
@@ -55,16 +56,18 @@ pub const SPACING_Y: usize = SPACING_X + POINT;
 
 pub const MAGNIFICATION: usize = SPACING_Y + POINT;
 
-pub const COS: usize = MAGNIFICATION + 8;
+pub const COS: usize = MAGNIFICATION + FLOAT;
 
-pub const SIN: usize = COS + 8;
+pub const SIN: usize = COS + FLOAT;
 
-pub const SOURCE_BOX: usize = SIN + 8;
+pub const SOURCE_BOX: usize = SIN + FLOAT;
 
 pub const REFERENCE_END: usize = SOURCE_BOX + BOX;
 
 // 5 cell; the numbers of its lists follow
-pub const CELL_FLAGS: usize = BODY;
+pub const NUMBER: usize = 4;
+
+pub const CELL_FLAGS: usize = HEAD;
 
 pub const DRAW_UNITS: usize = CELL_FLAGS + 2;
 

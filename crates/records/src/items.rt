@@ -89,7 +89,7 @@ pub fn node_point_at(s: &[u8], at: usize, i: u32) -> DVec2
     dvec2_at(body, NODE_END + POINT * (i as usize))
 }
 
-pub fn grid_at(s: &[u8], at: usize) -> Grid
+fn grid_at(s: &[u8], at: usize) -> Grid
     ensures { λ r. ⌜ r ≡ gridAt (now (s .entry)) at ⌝ }
 {
     let body = from(s, at);

@@ -48,7 +48,7 @@ pub fn marks_named(cells: u32, depth: u32) -> usize
 
 // ---- Readers and writers
 
-pub fn mark_at(marks: &[u8], place: usize) -> u8
+fn mark_at(marks: &[u8], place: usize) -> u8
     ensures { λ r. ⌜ r ≡ getD (now (marks .entry)) place 0 ⌝ }
 {
     if place < marks.len() {

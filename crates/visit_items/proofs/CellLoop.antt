@@ -8,15 +8,12 @@ use native.Mathlib.Omega.{arith}
 use lib.ListN.{length}
 use Rattle.geometry.specs.declared.bbox.Bounds.{Bounds}
 use Rattle.geometry.specs.declared.placement.Placement.{Placement}
-use Rattle.abstract_sheet.specs.Sheet.{Numbers, CellRecord, Sheet, sheetOf}
+use Rattle.abstract_sheet.specs.Sheet.{Numbers, CellRecord}
 use Rattle.plan_rules.specs.declared.ScenePlan.{ScenePlan}
 use Rattle.plan_rules.specs.declared.Fixed.{Fixed}
-use Rattle.plan_rules.specs.declared.Reason.the-variants as reason
-use Rattle.plan_rules.specs.World.{Query, detailBudgetExhausted, World, world, Flow, go, halt, each}
-use Rattle.plan_rules.specs.Push.{addLoadIfBoxed, pushGeometry, pushText, pushNode}
-use Rattle.plan_rules.specs.Visit.{haltWithCell, geometryStep, textStep, nodeStep}
-use Rattle.plan_rules.specs.Tape.{noTag, onTape}
-use Rattle.plan_rules.specs.OnTape.{fixedQuery}
+use Rattle.plan_rules.specs.declared.Reason.the-variants.{OtherLimit}
+use Rattle.plan_rules.specs.World.{detailBudgetExhausted, world, Flow, go, halt, each}
+use Rattle.plan_rules.specs.OnTape.{Given, givenBytes, fixedQuery, query, Output, addLoadIfBoxed, haltWithCell, pushGeometry, pushText, pushNode, geometryStep, textStep, nodeStep}
 use Rattle.visit_items.specs.declared.OpenCell.{OpenCell}
 use Rattle.visit_items.specs.Lists.{opened}
 use Rattle.plan_rules.proofs.Paths.Loops.{each-go, each-halt, each-done}
@@ -28,38 +25,38 @@ use Rattle.pushes.proofs.Start.{each-from}
 -- the rules' loop over one list: the list, what is done with a number of it, and a turn by what the budget says
 pub record Loop : Type 0 where
   pub numbers : CellRecord → Numbers
-  pub push : Sheet → Query → ℕ → Placement → World (List ℕ) → Flow (List ℕ)
-  pub step : Sheet → ℕ → Query → ℕ → CellRecord → Placement → Bounds → ℕ → World (List ℕ) → Flow (List ℕ)
-  pub step-exhausted : (S : Sheet) (cells : ℕ) (q : Query) (n : ℕ) (c : CellRecord) (p : Placement) (box : Bounds) (i : ℕ) (w : World (List ℕ))
-      → detailBudgetExhausted q (w .state) ≡ true → step S cells q n c p box i w ≡ halt (addLoadIfBoxed noTag onTape tt reason.OtherLimit n box w)
-  pub step-with-room : (S : Sheet) (cells : ℕ) (q : Query) (n : ℕ) (c : CellRecord) (p : Placement) (box : Bounds) (i : ℕ) (w : World (List ℕ))
-      → detailBudgetExhausted q (w .state) ≡ false → step S cells q n c p box i w ≡ haltWithCell noTag onTape tt n box (push S q (numbers c .at i) p w)
+  pub push : (f : Fixed) → Given f → ℕ → Placement → Output → Flow (List ℕ)
+  pub step : (f : Fixed) → Given f → ℕ → CellRecord → Placement → Bounds → ℕ → Output → Flow (List ℕ)
+  pub step-exhausted : (f : Fixed) (g : Given f) (n : ℕ) (c : CellRecord) (p : Placement) (box : Bounds) (i : ℕ) (w : Output)
+      → detailBudgetExhausted (query g) (w .state) ≡ true → step f g n c p box i w ≡ halt (addLoadIfBoxed OtherLimit n box w)
+  pub step-with-room : (f : Fixed) (g : Given f) (n : ℕ) (c : CellRecord) (p : Placement) (box : Bounds) (i : ℕ) (w : Output)
+      → detailBudgetExhausted (query g) (w .state) ≡ false → step f g n c p box i w ≡ haltWithCell n box (push f g (numbers c .at i) p w)
 
 abbrev pub geometries : Loop
 geometries = record {
   numbers = λ c. c .geometries;
-  push = λ S q n p w. go (pushGeometry noTag onTape S q tt n p w);
-  step = λ S cells q. geometryStep noTag onTape S cells q tt;
-  step-exhausted = λ S cells q. geometry-step-exhausted noTag onTape S cells q tt;
-  step-with-room = λ S cells q. geometry-step-goes noTag onTape S cells q tt;
+  push = λ f g n p w. go (pushGeometry g n p w);
+  step = λ f g. geometryStep g;
+  step-exhausted = λ f g. geometry-step-exhausted g;
+  step-with-room = λ f g. geometry-step-goes g;
 }
 
 abbrev pub texts : Loop
 texts = record {
   numbers = λ c. c .texts;
-  push = λ S q n p w. go (pushText noTag onTape S q tt n p w);
-  step = λ S cells q. textStep noTag onTape S cells q tt;
-  step-exhausted = λ S cells q. text-step-exhausted noTag onTape S cells q tt;
-  step-with-room = λ S cells q. text-step-goes noTag onTape S cells q tt;
+  push = λ f g n p w. go (pushText g n p w);
+  step = λ f g. textStep g;
+  step-exhausted = λ f g. text-step-exhausted g;
+  step-with-room = λ f g. text-step-goes g;
 }
 
 abbrev pub nodes : Loop
 nodes = record {
   numbers = λ c. c .nodes;
-  push = λ S q. pushNode noTag onTape S q tt;
-  step = λ S cells q. nodeStep noTag onTape S cells q tt;
-  step-exhausted = λ S cells q. node-step-exhausted noTag onTape S cells q tt;
-  step-with-room = λ S cells q. node-step-with-room noTag onTape S cells q tt;
+  push = λ f g. pushNode g;
+  step = λ f g. nodeStep g;
+  step-exhausted = λ f g. node-step-exhausted g;
+  step-with-room = λ f g. node-step-with-room g;
 }
 
 -- what the code's loop keeps: the arguments of its call, and how many numbers it has read that there are
@@ -72,15 +69,19 @@ pub record Call : Type 0 where
   pub cell : OpenCell
   pub count : ℕ
 
+-- what its plan is given
+abbrev pub toPlan : (a : Call) → Given (a .fixed)
+toPlan a = givenBytes (a .fixed) (a .sheet) (a .hidden)
+
 module _ (L : Loop) (a : Call) where
   abbrev pub listed : Numbers
   listed = L .numbers (opened (a .sheet) (a .cell))
 
-  abbrev pub pushed : ℕ → World (List ℕ) → Flow (List ℕ)
-  pushed n = L .push (sheetOf (a .sheet)) (fixedQuery (a .fixed) (a .hidden)) n (a .cell .transform)
+  abbrev pub pushed : ℕ → Output → Flow (List ℕ)
+  pushed n = L .push (a .fixed) (toPlan a) n (a .cell .transform)
 
-  abbrev pub turn : ℕ → World (List ℕ) → Flow (List ℕ)
-  turn = L .step (sheetOf (a .sheet)) (a .fixed .counts .cells) (fixedQuery (a .fixed) (a .hidden)) (a .cell .number) (opened (a .sheet) (a .cell)) (a .cell .transform) (a .cell .bounds)
+  abbrev pub turn : ℕ → Output → Flow (List ℕ)
+  turn = L .step (a .fixed) (toPlan a) (a .cell .number) (opened (a .sheet) (a .cell)) (a .cell .transform) (a .cell .bounds)
 
   abbrev pub whole : List ℕ → List ℕ → Flow (List ℕ)
   whole k m = each turn (listed .count) 0 (world (a .plan) (a .out) k m)
@@ -111,19 +112,19 @@ module _ {L : Loop} {a : Call} where
 
     module _ (due : i < a .count) {asked : Bool} (budget : (hidden : List ℕ) → asked ≡ detailBudgetExhausted (fixedQuery (a .fixed) hidden) plan) where
       -- a turn that halts is the last
-      halted : {w : World (List ℕ)} (k m : List ℕ) → turn L a i (world plan out k m) ≡ halt w → halt w ≡ whole L a k m
+      halted : {w : Output} (k m : List ℕ) → turn L a i (world plan out k m) ≡ halt w → halt w ≡ whole L a k m
       halted k m e = sym (each-halt _ _ i _ _ due e) ∙ here .left k m
 
-      pub exhausted : asked ≡ true → {plan₁ : ScenePlan} {out₁ : List ℕ} → ((k m : List ℕ) → world plan₁ out₁ k m ≡ addLoadIfBoxed noTag onTape tt reason.OtherLimit (a .cell .number) (a .cell .bounds) (world plan out k m))
+      pub exhausted : asked ≡ true → {plan₁ : ScenePlan} {out₁ : List ℕ} → ((k m : List ℕ) → world plan₁ out₁ k m ≡ addLoadIfBoxed OtherLimit (a .cell .number) (a .cell .bounds) (world plan out k m))
           → (k m : List ℕ) → halt (world plan₁ out₁ k m) ≡ whole L a k m
-      exhausted full added k m = halted k m (L .step-exhausted _ _ _ _ _ _ _ _ _ (sym (budget (a .hidden)) ∙ full) ∙ ap halt (sym (added k m)))
+      exhausted full added k m = halted k m (L .step-exhausted (a .fixed) (toPlan a) _ _ _ _ _ _ (sym (budget (a .hidden)) ∙ full) ∙ ap halt (sym (added k m)))
 
       module _ (room : asked ≡ false) {number : ℕ} (read : number ≡ listed L a .at i) where
         -- a turn with room, by what is done with the number
-        turned : {f : Flow (List ℕ)} (k m : List ℕ) → pushed L a number (world plan out k m) ≡ f → turn L a i (world plan out k m) ≡ haltWithCell noTag onTape tt (a .cell .number) (a .cell .bounds) f
+        turned : {f : Flow (List ℕ)} (k m : List ℕ) → pushed L a number (world plan out k m) ≡ f → turn L a i (world plan out k m) ≡ haltWithCell (a .cell .number) (a .cell .bounds) f
         turned k m e =
-            L .step-with-room _ _ _ _ _ _ _ _ _ (sym (budget (a .hidden)) ∙ room)
-            ∙ ap (haltWithCell noTag onTape tt (a .cell .number) (a .cell .bounds)) (ap (λ (n : ℕ). pushed L a n (world plan out k m)) (sym read) ∙ e)
+            L .step-with-room (a .fixed) (toPlan a) _ _ _ _ _ _ (sym (budget (a .hidden)) ∙ room)
+            ∙ ap (haltWithCell (a .cell .number) (a .cell .bounds)) (ap (λ (n : ℕ). pushed L a n (world plan out k m)) (sym read) ∙ e)
 
         pub goes : {plan₁ : ScenePlan} {out₁ : List ℕ} → ((k m : List ℕ) → pushed L a number (world plan out k m) ≡ go (world plan₁ out₁ k m)) → length out₁ ≡ length out → Left L a out₁ plan₁ (i + 1)
         goes e same = record {
@@ -133,6 +134,6 @@ module _ {L : Loop} {a : Call} where
         }
 
         pub halts : {plan₁ : ScenePlan} {out₁ : List ℕ} → ((k m : List ℕ) → pushed L a number (world plan out k m) ≡ halt (world plan₁ out₁ k m))
-            → {plan₂ : ScenePlan} {out₂ : List ℕ} → ((k m : List ℕ) → world plan₂ out₂ k m ≡ addLoadIfBoxed noTag onTape tt reason.OtherLimit (a .cell .number) (a .cell .bounds) (world plan₁ out₁ k m))
+            → {plan₂ : ScenePlan} {out₂ : List ℕ} → ((k m : List ℕ) → world plan₂ out₂ k m ≡ addLoadIfBoxed OtherLimit (a .cell .number) (a .cell .bounds) (world plan₁ out₁ k m))
             → (k m : List ℕ) → halt (world plan₂ out₂ k m) ≡ whole L a k m
         halts e added k m = halted k m (turned k m (e k m) ∙ ap halt (sym (added k m)))

@@ -4,13 +4,11 @@ use mathlib.Core.Path.{_≡_}
 use mathlib.Core.List.{List}
 use Prim.Native.Nat.{ℕ}
 use denote.Ref.{RefT}
-use Rattle.abstract_sheet.specs.Sheet.{CellRecord, sheetOf, cellRecordWith}
+use Rattle.abstract_sheet.specs.Sheet.{CellRecord, cellRecordWith}
 use Rattle.plan_rules.specs.declared.ScenePlan.{ScenePlan}
 use Rattle.plan_rules.specs.declared.Fixed.{Fixed}
 use Rattle.plan_rules.specs.World.{world, Flow, each, ending}
-use Rattle.plan_rules.specs.Visit.{geometryStep, textStep, nodeStep, referenceStep, cellBody}
-use Rattle.plan_rules.specs.Tape.{noTag, onTape}
-use Rattle.plan_rules.specs.OnTape.{Output, fixedQuery, VisitReference}
+use Rattle.plan_rules.specs.OnTape.{Given, given, Output, VisitReference, geometryStep, textStep, nodeStep, referenceStep, cellBody}
 use Rattle.visit_items.specs.declared.OpenCell.{OpenCell}
 use Rattle.visit_items.specs.declared.Listed.{Listed}
 
@@ -18,25 +16,27 @@ use Rattle.visit_items.specs.declared.Listed.{Listed}
 abbrev pub opened : List ℕ → OpenCell → CellRecord
 opened s c = cellRecordWith s (c .at) (c .record)
 
-module _ (s : List ℕ) (f : Fixed) (hidden : List ℕ) (c : OpenCell) where
+-- its lists by that record
+module _ {f : Fixed} (g : Given f) (c : OpenCell) (x : CellRecord) where
   abbrev pub pushGeometries : Output → Flow (List ℕ)
-  pushGeometries = each (geometryStep noTag onTape (sheetOf s) (f .counts .cells) (fixedQuery f hidden) tt (c .number) (opened s c) (c .transform) (c .bounds)) (opened s c .geometries .count) 0
+  pushGeometries = each (geometryStep g (c .number) x (c .transform) (c .bounds)) (x .geometries .count) 0
 
   abbrev pub pushTexts : Output → Flow (List ℕ)
-  pushTexts = each (textStep noTag onTape (sheetOf s) (f .counts .cells) (fixedQuery f hidden) tt (c .number) (opened s c) (c .transform) (c .bounds)) (opened s c .texts .count) 0
+  pushTexts = each (textStep g (c .number) x (c .transform) (c .bounds)) (x .texts .count) 0
 
   abbrev pub pushNodes : Output → Flow (List ℕ)
-  pushNodes = each (nodeStep noTag onTape (sheetOf s) (f .counts .cells) (fixedQuery f hidden) tt (c .number) (opened s c) (c .transform) (c .bounds)) (opened s c .nodes .count) 0
+  pushNodes = each (nodeStep g (c .number) x (c .transform) (c .bounds)) (x .nodes .count) 0
 
   -- so many of the cell's references, and all its lists
-  abbrev pub visitReferences : VisitReference (sheetOf s) f hidden → ℕ → Output → Output
-  visitReferences visit count w = ending (each (referenceStep noTag onTape (sheetOf s) (f .counts .cells) (fixedQuery f hidden) tt (c .number) (opened s c) (c .transform) (c .bounds) visit) count 0 w)
+  abbrev pub visitReferences : VisitReference g → ℕ → Output → Output
+  visitReferences on count w = ending (each (referenceStep g (c .number) x (c .transform) (c .bounds) on) count 0 w)
 
-  abbrev pub visitLists : VisitReference (sheetOf s) f hidden → Output → Output
-  visitLists visit w = ending (cellBody noTag onTape (sheetOf s) (f .counts .cells) (fixedQuery f hidden) tt (c .number) (opened s c) (c .transform) (c .bounds) visit w)
+  abbrev pub visitLists : VisitReference g → Output → Output
+  visitLists on w = ending (cellBody g (c .number) x (c .transform) (c .bounds) on w)
 
 -- what `push_items` promises: whatever the way to visit on and the scratch, its references visited are its lists
-abbrev pub LeavesReferences : List ℕ → Fixed → List ℕ → OpenCell → Listed → RefT (List ℕ) → ScenePlan → RefT (List ℕ) → Type 0
-LeavesReferences s f hidden c r out plan outBefore =
-    (on : VisitReference (sheetOf s) f hidden) (k m : List ℕ)
-    → visitReferences s f hidden c on (r .references) (world (r .plan) (out .now) k m) ≡ visitLists s f hidden c on (world plan (outBefore .now) k m)
+abbrev pub LeavesReferences : RefT (List ℕ) → Fixed → RefT (List ℕ) → OpenCell → Listed → RefT (List ℕ) → ScenePlan → RefT (List ℕ) → Type 0
+LeavesReferences sheet f hidden c r out plan outBefore =
+    (on : VisitReference (given f sheet hidden)) (k m : List ℕ)
+    → visitReferences (given f sheet hidden) c (opened (sheet .now) c) on (r .references) (world (r .plan) (out .now) k m)
+    ≡ visitLists (given f sheet hidden) c (opened (sheet .now) c) on (world plan (outBefore .now) k m)

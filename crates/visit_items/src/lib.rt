@@ -36,7 +36,7 @@ pub fn push_items(
     plan: ScenePlan,
     cell: OpenCell,
 ) -> Listed
-    ensures { λ r. ⌜ LeavesReferences (now (sheet .entry)) fixed (now (hidden .entry)) cell r (out .exit) plan (out .entry) ⌝ }
+    ensures { λ r. ⌜ LeavesReferences (sheet .entry) fixed (hidden .entry) cell r (out .exit) plan (out .entry) ⌝ }
 {
     let geometries = push_geometries(sheet, fixed, hidden, out, plan, cell);
     let after_geometries = geometries.plan;

@@ -11,8 +11,8 @@ use pushes::push_geometry;
 use pushes::push_node;
 use pushes::push_text;
 ghost use Rattle.plan_rules.specs.declared.Reason.the-variants.{OtherLimit};
-ghost use Rattle.plan_rules.specs.OnTape.{Leaves, LeavesFlow, addLoadIfBoxed};
-ghost use Rattle.visit_items.specs.Lists.{pushGeometries, pushTexts, pushNodes};
+ghost use Rattle.plan_rules.specs.OnTape.{given, Leaves, LeavesFlow, addLoadIfBoxed};
+ghost use Rattle.visit_items.specs.Lists.{opened, pushGeometries, pushTexts, pushNodes};
 
 // A limit is met in the visit of a cell.
 pub fn load_cell(out: &mut [u8], plan: ScenePlan, cell: OpenCell) -> ScenePlan
@@ -30,7 +30,7 @@ pub fn push_geometries(
     plan: ScenePlan,
     cell: OpenCell,
 ) -> Visited
-    ensures { λ r. ⌜ LeavesFlow (r .whole) (r .plan) (out .exit) (pushGeometries (now (sheet .entry)) fixed (now (hidden .entry)) cell) plan (out .entry) ⌝ }
+    ensures { λ r. ⌜ LeavesFlow (r .whole) (r .plan) (out .exit) (pushGeometries (given fixed (sheet .entry) (hidden .entry)) cell (opened (now (sheet .entry)) cell)) plan (out .entry) ⌝ }
 {
     let count = cell.record.geometries;
     let mut next = plan;
@@ -60,7 +60,7 @@ pub fn push_texts(
     plan: ScenePlan,
     cell: OpenCell,
 ) -> Visited
-    ensures { λ r. ⌜ LeavesFlow (r .whole) (r .plan) (out .exit) (pushTexts (now (sheet .entry)) fixed (now (hidden .entry)) cell) plan (out .entry) ⌝ }
+    ensures { λ r. ⌜ LeavesFlow (r .whole) (r .plan) (out .exit) (pushTexts (given fixed (sheet .entry) (hidden .entry)) cell (opened (now (sheet .entry)) cell)) plan (out .entry) ⌝ }
 {
     let count = cell.record.texts;
     let mut next = plan;
@@ -90,7 +90,7 @@ pub fn push_nodes(
     plan: ScenePlan,
     cell: OpenCell,
 ) -> Visited
-    ensures { λ r. ⌜ LeavesFlow (r .whole) (r .plan) (out .exit) (pushNodes (now (sheet .entry)) fixed (now (hidden .entry)) cell) plan (out .entry) ⌝ }
+    ensures { λ r. ⌜ LeavesFlow (r .whole) (r .plan) (out .exit) (pushNodes (given fixed (sheet .entry) (hidden .entry)) cell (opened (now (sheet .entry)) cell)) plan (out .entry) ⌝ }
 {
     let count = cell.record.nodes;
     let mut next = plan;

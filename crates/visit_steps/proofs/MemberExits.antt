@@ -17,14 +17,14 @@ use Rattle.geometry.specs.Grid.{gridMemberTransform}
 use Rattle.geometry.specs.Screen.{referenceScreenSize, isSubpixel, collapseTest, collapses}
 use Rattle.records.specs.declared.PreparedReference.{PreparedReference}
 use Rattle.records.specs.Sources.{label}
-use Rattle.abstract_sheet.specs.Sheet.{Sheet}
+use Rattle.plan_rules.specs.declared.Fixed.{Fixed}
 use Rattle.plan_rules.specs.declared.Reason.{Reason}
 use Rattle.plan_rules.specs.declared.Reason.the-variants as reason
 use Rattle.plan_rules.specs.Event.{skippedMember, culledReference}
-use Rattle.plan_rules.specs.World.{Query, detailBudgetExhausted, World, Flow, go, halt}
-use Rattle.plan_rules.specs.Push.{say, addLoad}
-use Rattle.plan_rules.specs.Visit.{VisitSource, collapseReason, haltWithMember, memberStep}
-use Rattle.plan_rules.specs.Tape.{noTag, onTape}
+use Rattle.plan_rules.specs.World.{detailBudgetExhausted, Flow, go, halt}
+use Rattle.plan_rules.specs.Visit as visit
+use Rattle.plan_rules.specs.Visit.{collapseReason}
+use Rattle.plan_rules.specs.OnTape.{Given, Output, query, say, addLoad, haltWithMember, VisitSource, memberStep}
 use Rattle.plan_rules.proofs.Paths.References.{member-exhausted, member-culled, member-skipped, member-collapsed}
 
 -- ---- where member i stands
@@ -44,30 +44,30 @@ module _ (i columns : ℕ) where
 
 -- ---- the ways out
 
-module _ (S : Sheet) (cells : ℕ) (q : Query) (visit : VisitSource noTag onTape S cells q) (d : ℕ) (r : PreparedReference) (p : Placement) (sourceBox worldBox : WorldBBox) (units column row : ℕ) (w : World (List ℕ)) where
+module _ {f : Fixed} (g : Given f) (on : VisitSource g) (d : ℕ) (r : PreparedReference) (p : Placement) (sourceBox worldBox : WorldBBox) (units column row : ℕ) (w : Output) where
   abbrev step : Flow (List ℕ)
-  step = memberStep noTag onTape S cells q visit d tt r p sourceBox worldBox units column row w
+  step = memberStep g on d r p sourceBox worldBox units column row w
 
   abbrev memberBox : WorldBBox
   memberBox = transformBbox (p · gridMemberTransform (r .grid) column row) sourceBox
 
   abbrev memberSize : ScreenSize
-  memberSize = referenceScreenSize memberBox (q .zoom) (sourceIsDegenerate sourceBox)
+  memberSize = referenceScreenSize memberBox (f .options .zoom) (sourceIsDegenerate sourceBox)
 
   -- the label, and whether the budget is exhausted
-  module _ (l : ℕ) (label-is : l ≡ label (r .source)) (x : Bool) (exhausted-is : x ≡ detailBudgetExhausted q (w .state)) where
-    pub try-exhausted : x ≡ true → (v : World (List ℕ)) → v ≡ addLoad noTag onTape tt reason.OtherLimit l worldBox w → halt v ≡ step
+  module _ (l : ℕ) (label-is : l ≡ label (r .source)) (x : Bool) (exhausted-is : x ≡ detailBudgetExhausted (query g) (w .state)) where
+    pub try-exhausted : x ≡ true → (v : Output) → v ≡ addLoad reason.OtherLimit l worldBox w → halt v ≡ step
     try-exhausted e v loaded =
-        ap halt (loaded ∙ ap (λ (n : ℕ). addLoad noTag onTape tt reason.OtherLimit n worldBox w) label-is)
-        ∙ sym (member-exhausted noTag onTape S cells q visit d tt r p sourceBox worldBox units column row w (sym exhausted-is ∙ e))
+        ap halt (loaded ∙ ap (λ (n : ℕ). addLoad reason.OtherLimit n worldBox w) label-is)
+        ∙ sym (member-exhausted g on d r p sourceBox worldBox units column row w (sym exhausted-is ∙ e))
 
     -- with room left, the member's placement and box, and whether it is in view
     module _ (room : x ≡ false)
         (child : Placement) (child-is : child ≡ gridMemberTransform (r .grid) column row)
         (placement : Placement) (placement-is : placement ≡ p · child)
         (box : WorldBBox) (box-is : box ≡ transformBbox placement sourceBox)
-        (y : Bool) (overlaps-is : y ≡ overlaps box (q .view)) where
-      room-left : detailBudgetExhausted q (w .state) ≡ false
+        (y : Bool) (overlaps-is : y ≡ overlaps box (f .options .view)) where
+      room-left : detailBudgetExhausted (query g) (w .state) ≡ false
       room-left = sym exhausted-is ∙ room
 
       member-placement : placement ≡ p · gridMemberTransform (r .grid) column row
@@ -76,36 +76,36 @@ module _ (S : Sheet) (cells : ℕ) (q : Query) (visit : VisitSource noTag onTape
       member-box : box ≡ memberBox
       member-box = box-is ∙ ap (λ (a : Placement). transformBbox a sourceBox) member-placement
 
-      in-view : overlaps memberBox (q .view) ≡ y
-      in-view = sym (overlaps-is ∙ ap (λ (b : WorldBBox). overlaps b (q .view)) member-box)
+      in-view : overlaps memberBox (f .options .view) ≡ y
+      in-view = sym (overlaps-is ∙ ap (λ (b : WorldBBox). overlaps b (f .options .view)) member-box)
 
-      pub try-culled : not y ≡ true → (v : World (List ℕ)) → v ≡ say noTag onTape tt culledReference w → go v ≡ step
+      pub try-culled : not y ≡ true → (v : Output) → v ≡ say culledReference w → go v ≡ step
       try-culled e v said =
           ap go said
-          ∙ sym (member-culled noTag onTape S cells q visit d tt r p sourceBox worldBox units column row w room-left (in-view ∙ not-true y e))
+          ∙ sym (member-culled g on d r p sourceBox worldBox units column row w room-left (in-view ∙ not-true y e))
 
       -- in view, the member's size on the screen
       module _ (seen : not y ≡ false)
           (degenerate : Bool) (degenerate-is : degenerate ≡ sourceIsDegenerate sourceBox)
-          (size : ScreenSize) (size-is : size ≡ referenceScreenSize box (q .zoom) degenerate)
+          (size : ScreenSize) (size-is : size ≡ referenceScreenSize box (f .options .zoom) degenerate)
           (s : Bool) (subpixel-is : s ≡ isSubpixel size) where
-        member-seen : overlaps memberBox (q .view) ≡ true
+        member-seen : overlaps memberBox (f .options .view) ≡ true
         member-seen = in-view ∙ not-false y seen
 
         member-size : size ≡ memberSize
         member-size =
             size-is
-            ∙ ap (referenceScreenSize box (q .zoom)) degenerate-is
-            ∙ ap (λ (b : WorldBBox). referenceScreenSize b (q .zoom) (sourceIsDegenerate sourceBox)) member-box
+            ∙ ap (referenceScreenSize box (f .options .zoom)) degenerate-is
+            ∙ ap (λ (b : WorldBBox). referenceScreenSize b (f .options .zoom) (sourceIsDegenerate sourceBox)) member-box
 
         member-subpixel : isSubpixel memberSize ≡ s
         member-subpixel = sym (subpixel-is ∙ ap isSubpixel member-size)
 
         -- the tape does not show which member was skipped
-        pub try-skipped : s ≡ true → (v : World (List ℕ)) → ((g : Bool) (b : WorldBBox) → v ≡ say noTag onTape tt (skippedMember g b) w) → go v ≡ step
+        pub try-skipped : s ≡ true → (v : Output) → ((degenerate : Bool) (b : WorldBBox) → v ≡ say (skippedMember degenerate b) w) → go v ≡ step
         try-skipped e v said =
             ap go (said (sourceIsDegenerate sourceBox) memberBox)
-            ∙ sym (member-skipped noTag onTape S cells q visit d tt r p sourceBox worldBox units column row w room-left member-seen (member-subpixel ∙ e))
+            ∙ sym (member-skipped g on d r p sourceBox worldBox units column row w room-left member-seen (member-subpixel ∙ e))
 
         -- large enough, the first test met, and whether it collapses the member
         module _ (large : s ≡ false) (test : CollapseTest) (test-is : test ≡ collapseTest (size .width) (size .height) 1 units d false) (z : Bool) (collapses-is : z ≡ collapses test) where
@@ -115,15 +115,15 @@ module _ (S : Sheet) (cells : ℕ) (q : Query) (visit : VisitSource noTag onTape
           member-collapses : collapses (collapseTest (memberSize .width) (memberSize .height) 1 units d false) ≡ z
           member-collapses = ap collapses member-test ∙ sym collapses-is
 
-          pub try-collapsed : z ≡ true → (why : Reason) → why ≡ collapseReason test → (v : World (List ℕ)) → v ≡ addLoad noTag onTape tt why l box w → go v ≡ step
+          pub try-collapsed : z ≡ true → (why : Reason) → why ≡ collapseReason test → (v : Output) → v ≡ addLoad why l box w → go v ≡ step
           try-collapsed e why why-is v loaded =
               ap go (loaded
-              ∙ ap (λ (y : Reason). addLoad noTag onTape tt y l box w) (why-is ∙ ap collapseReason (sym member-test))
-              ∙ ap (λ (n : ℕ). addLoad noTag onTape tt (collapseReason (collapseTest (memberSize .width) (memberSize .height) 1 units d false)) n box w) label-is
-              ∙ ap (λ (b : WorldBBox). addLoad noTag onTape tt (collapseReason (collapseTest (memberSize .width) (memberSize .height) 1 units d false)) (label (r .source)) b w) member-box)
-              ∙ sym (member-collapsed noTag onTape S cells q visit d tt r p sourceBox worldBox units column row w room-left member-seen (member-subpixel ∙ large) (member-collapses ∙ e))
+              ∙ ap (λ (y : Reason). addLoad y l box w) (why-is ∙ ap collapseReason (sym member-test))
+              ∙ ap (λ (n : ℕ). addLoad (collapseReason (collapseTest (memberSize .width) (memberSize .height) 1 units d false)) n box w) label-is
+              ∙ ap (λ (b : WorldBBox). addLoad (collapseReason (collapseTest (memberSize .width) (memberSize .height) 1 units d false)) (label (r .source)) b w) member-box)
+              ∙ sym (member-collapsed g on d r p sourceBox worldBox units column row w room-left member-seen (member-subpixel ∙ large) (member-collapses ∙ e))
 
           -- the source is left to be visited
-          pub try-opens : z ≡ false → haltWithMember noTag onTape tt (label (r .source)) box (visit tt (r .source) placement w) ≡ step
-          unfolding memberStep
+          pub try-opens : z ≡ false → haltWithMember (label (r .source)) box (on tt (r .source) placement w) ≡ step
+          unfolding visit.memberStep
           try-opens e = rw (room-left, member-seen, member-subpixel ∙ large, member-collapses ∙ e, member-box, member-placement)

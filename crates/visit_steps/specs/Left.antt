@@ -14,74 +14,67 @@ use Rattle.geometry.specs.Bbox.{sourceIsDegenerate}
 use Rattle.geometry.specs.Screen.{referenceScreenSize, collapseTest}
 use Rattle.records.specs.declared.PreparedReference.{PreparedReference}
 use Rattle.records.specs.Sources.{label}
-use Rattle.abstract_sheet.specs.Sheet.{CellRecord, Sheet}
+use Rattle.abstract_sheet.specs.Sheet.{CellRecord}
 use Rattle.plan_rules.specs.declared.ScenePlan.{ScenePlan}
 use Rattle.plan_rules.specs.declared.Fixed.{Fixed}
 use Rattle.plan_rules.specs.Scratch.{openPlace}
 use Rattle.plan_rules.specs.DrawUnits.{referenceDrawUnits}
 use Rattle.plan_rules.specs.World.{world, Flow, flow, ending, setMark}
-use Rattle.plan_rules.specs.Visit as visit
-use Rattle.plan_rules.specs.Tape.{noTag, onTape}
-use Rattle.plan_rules.specs.OnTape.{Output, fixedQuery, VisitReference, VisitSource}
+use Rattle.plan_rules.specs.OnTape.{Given, Output, haltWithMember, VisitReference, VisitSource, cellBody, visitFoundCell, memberStep, visitCountedReference, visitSourcedReference}
 use Rattle.visit_steps.specs.declared.cell.Entered.{Entered}
 use Rattle.visit_steps.specs.declared.reference.Opened.{Opened}
 use Rattle.visit_steps.specs.declared.member.Tried.{Tried}
 
-module _ (S : Sheet) (f : Fixed) (hidden : List ℕ) where
+module _ {f : Fixed} (g : Given f) where
   -- ---- a cell that is there
 
-  abbrev pub foundCell : VisitReference S f hidden → ℕ → CellRecord → Placement → Output → Output
-  foundCell on n c p w = visit.visitFoundCell noTag onTape S (f .counts .cells) (fixedQuery f hidden) on tt n p (some c) w
+  abbrev pub foundCell : VisitReference g → ℕ → CellRecord → Placement → Output → Output
+  foundCell on n c p w = visitFoundCell g on n p (some c) w
 
   -- its lists, and then the cell is closed; or nothing
-  abbrev pub leftOfCell : VisitReference S f hidden → ℕ → CellRecord → Placement → Entered → Output → Output
-  leftOfCell on n c p r w =
-      cond (r .goes)
-      (setMark (openPlace (f .counts .cells) n) 0 (ending (visit.cellBody noTag onTape S (f .counts .cells) (fixedQuery f hidden) tt n c p (r .bounds) on w)))
-      w
+  abbrev pub leftOfCell : VisitReference g → ℕ → CellRecord → Placement → Entered → Output → Output
+  leftOfCell on n c p r w = cond (r .goes) (setMark (openPlace (f .counts .cells) n) 0 (ending (cellBody g n c p (r .bounds) on w))) w
 
   -- ---- a reference that is there
 
-  abbrev pub foundReference : VisitSource S f hidden → ℕ → PreparedReference → Placement → Output → Output
-  foundReference on depth r p w = visit.visitSourcedReference noTag onTape S (f .counts .cells) (fixedQuery f hidden) on depth tt r p (r .«source_bbox») w
+  abbrev pub foundReference : VisitSource g → ℕ → PreparedReference → Placement → Output → Output
+  foundReference on depth r p w = visitSourcedReference g on depth r p (r .«source_bbox») w
 
   -- its draw units, and what follows from them; or nothing
-  abbrev pub leftOfReference : VisitSource S f hidden → ℕ → PreparedReference → Placement → Opened → Output → Output
+  abbrev pub leftOfReference : VisitSource g → ℕ → PreparedReference → Placement → Opened → Output → Output
   leftOfReference on depth r p o w =
       cond (o .goes)
-      (visit.visitCountedReference noTag onTape S (f .counts .cells) (fixedQuery f hidden) on depth tt r p (o .«source_bbox») (o .«world_bbox»)
-      (referenceDrawUnits S (f .counts .cells) depth r (w .counts) (w .marks)) w)
+      (visitCountedReference g on depth r p (o .«source_bbox») (o .«world_bbox») (referenceDrawUnits (g .sheet) (f .counts .cells) depth r (w .counts) (w .marks)) w)
       w
 
   -- ---- member i of a reference, which stands in column i / rows and row i % rows
 
-  abbrev pub member : VisitSource S f hidden → ℕ → PreparedReference → Placement → WorldBBox → WorldBBox → ℕ → ℕ → Output → Flow (List ℕ)
-  member on depth r p sourceBox worldBox units i w =
-      visit.memberStep noTag onTape S (f .counts .cells) (fixedQuery f hidden) on depth tt r p sourceBox worldBox units (i / (r .grid .rows)) (i % (r .grid .rows)) w
+  abbrev pub member : VisitSource g → ℕ → PreparedReference → Placement → WorldBBox → WorldBBox → ℕ → ℕ → Output → Flow (List ℕ)
+  member on depth r p sourceBox worldBox units i w = memberStep g on depth r p sourceBox worldBox units (i / (r .grid .rows)) (i % (r .grid .rows)) w
 
   -- the visit of its source; or whether the visit of the reference goes on
-  abbrev pub leftOfMember : VisitSource S f hidden → PreparedReference → Tried → Output → Flow (List ℕ)
-  leftOfMember on r t w = cond (t .opens) (visit.haltWithMember noTag onTape tt (label (r .source)) (t .bbox) (on tt (r .source) (t .placement) w)) (flow (t .whole) w)
+  abbrev pub leftOfMember : VisitSource g → PreparedReference → Tried → Output → Flow (List ℕ)
+  leftOfMember on r t w = cond (t .opens) (haltWithMember (label (r .source)) (t .bbox) (on tt (r .source) (t .placement) w)) (flow (t .whole) w)
 
--- ---- what a step promises: whatever the sheet, the hidden layers and the way to visit on, what is left to do is the visit from the step on
+-- ---- what a step promises: whatever a plan is given and the way to visit on, what is left to do is the visit from the step on
 
 -- of a cell by its box, from its output and marks (before) to those that the step left
 abbrev pub EntersCell : Fixed → ℕ → Bounds → Placement → Entered → RefT (List ℕ) → RefT (List ℕ) → ScenePlan → RefT (List ℕ) → RefT (List ℕ) → Type 0
 EntersCell f n bbox p r out marks plan outBefore marksBefore =
-    (S : Sheet) (hidden : List ℕ) (on : VisitReference S f hidden) (c : CellRecord) (k : List ℕ) → c .bbox ≡ bbox
-    → leftOfCell S f hidden on n c p r (world (r .plan) (out .now) k (marks .now)) ≡ foundCell S f hidden on n c p (world plan (outBefore .now) k (marksBefore .now))
+    (g : Given f) (on : VisitReference g) (c : CellRecord) (k : List ℕ) → c .bbox ≡ bbox
+    → leftOfCell g on n c p r (world (r .plan) (out .now) k (marks .now)) ≡ foundCell g on n c p (world plan (outBefore .now) k (marksBefore .now))
 
 -- of a reference
 abbrev pub OpensReference : Fixed → PreparedReference → Placement → Opened → RefT (List ℕ) → ScenePlan → RefT (List ℕ) → Type 0
 OpensReference f r p o out plan outBefore =
-    (S : Sheet) (hidden : List ℕ) (on : VisitSource S f hidden) (depth : ℕ) (k m : List ℕ)
-    → leftOfReference S f hidden on depth r p o (world (o .plan) (out .now) k m) ≡ foundReference S f hidden on depth r p (world plan (outBefore .now) k m)
+    (g : Given f) (on : VisitSource g) (depth : ℕ) (k m : List ℕ)
+    → leftOfReference g on depth r p o (world (o .plan) (out .now) k m) ≡ foundReference g on depth r p (world plan (outBefore .now) k m)
 
 -- of member i of a reference, by its boxes and a member's share of the draw units
 abbrev pub TriesMember : Fixed → PreparedReference → Placement → WorldBBox → WorldBBox → ℕ → ℕ → ℕ → Tried → RefT (List ℕ) → ScenePlan → RefT (List ℕ) → Type 0
 TriesMember f r p sourceBox worldBox units i depth t out plan outBefore =
-    (S : Sheet) (hidden : List ℕ) (on : VisitSource S f hidden) (k m : List ℕ)
-    → leftOfMember S f hidden on r t (world (t .plan) (out .now) k m) ≡ member S f hidden on depth r p sourceBox worldBox units i (world plan (outBefore .now) k m)
+    (g : Given f) (on : VisitSource g) (k m : List ℕ)
+    → leftOfMember g on r t (world (t .plan) (out .now) k m) ≡ member g on depth r p sourceBox worldBox units i (world plan (outBefore .now) k m)
 
 -- the first test that a reference of so many members meets, by the size of its box on the screen
 abbrev pub referenceTest : Fixed → WorldBBox → WorldBBox → ℕ → ℕ → ℕ → CollapseTest

@@ -15,17 +15,15 @@ use Rattle.records.specs.declared.PreparedSource.{PreparedSource}
 use Rattle.records.specs.declared.PreparedSource.the-variants.{Geometry, Text, Node, Reference, Cell}
 use Rattle.records.specs.declared.PreparedCell.{PreparedCell}
 use Rattle.records.specs.Records.{cellAt, cellReferenceAt}
-use Rattle.abstract_sheet.specs.Sheet.{CellRecord, sheetOf, cellRecordWith, cellRecordAt, cells}
+use Rattle.abstract_sheet.specs.Sheet.{CellRecord, cellRecordWith, cellRecordAt, cells}
 use Rattle.abstract_sheet.proofs.Lookup.{item-read}
 use Rattle.plan_rules.specs.declared.ScenePlan.{ScenePlan}
 use Rattle.plan_rules.specs.declared.Fixed.{Fixed}
 use Rattle.plan_rules.specs.declared.Reason.the-variants.{OtherLimit}
-use Rattle.plan_rules.specs.World.{Query, detailBudgetExhausted, World, world, Flow, go, halt, setMark}
+use Rattle.plan_rules.specs.World.{detailBudgetExhausted, world, Flow, go, halt, setMark}
 use Rattle.plan_rules.specs.Scratch.{openPlace}
 use Rattle.plan_rules.specs.Visit as rules
-use Rattle.plan_rules.specs.Visit.{referenceStep}
-use Rattle.plan_rules.specs.Tape.{noTag, onTape}
-use Rattle.plan_rules.specs.OnTape.{fixedQuery, VisitReference, addLoadIfBoxed, pushGeometry, pushText, pushNode, visitCell, visitReference, visitSource}
+use Rattle.plan_rules.specs.OnTape.{Given, givenBytes, Output, query, addLoadIfBoxed, pushGeometry, pushText, pushNode, referenceStep, visitFoundCell, onReference, visitCell, visitReference, visitSource}
 use Rattle.plan_rules.proofs.Paths.Cells as Paths
 use Rattle.visit_items.specs.declared.OpenCell.{OpenCell}
 use Rattle.visit_items.specs.Lists.{opened, visitReferences, visitLists}
@@ -33,90 +31,88 @@ use Rattle.visit_steps.specs.declared.cell.Entered.{Entered}
 use Rattle.visit_steps.specs.Left.{foundCell, leftOfCell}
 
 -- one turn of the loop over the references of the cell at an offset
-abbrev pub turn : List ℕ → Fixed → List ℕ → ℕ → OpenCell → ℕ → World (List ℕ) → Flow (List ℕ)
-turn s f hidden depth c =
-    referenceStep noTag onTape (sheetOf s) (f .counts .cells) (fixedQuery f hidden) tt (c .number) (opened s c) (c .transform) (c .bounds) (rules.visitReference noTag onTape (sheetOf s) (f .counts .cells) (fixedQuery f hidden) depth)
+abbrev pub turn : List ℕ → Fixed → List ℕ → ℕ → OpenCell → ℕ → Output → Flow (List ℕ)
+turn s f hidden depth c = referenceStep (givenBytes f s hidden) (c .number) (opened s c) (c .transform) (c .bounds) (onReference (givenBytes f s hidden) depth)
 
 module _ (s : List ℕ) (f : Fixed) (hidden : List ℕ) (depth : ℕ) where
-  abbrev q : Query
-  q = fixedQuery f hidden
-
-  abbrev cellCount : ℕ
-  cellCount = f .counts .cells
-
-  abbrev on : VisitReference (sheetOf s) f hidden
-  on = rules.visitReference noTag onTape (sheetOf s) cellCount q depth
+  -- what the plan is given
+  abbrev g : Given f
+  g = givenBytes f s hidden
 
   -- ---- the loop of `visit_cell`
 
-  module _ (c : OpenCell) (i : ℕ) (w v : World (List ℕ)) where
-    pub turn-exhausted : detailBudgetExhausted q (w .state) ≡ true → v ≡ addLoadIfBoxed OtherLimit (c .number) (c .bounds) w → turn s f hidden depth c i w ≡ halt v
-    turn-exhausted full boxed = Paths.reference-step-exhausted noTag onTape (sheetOf s) cellCount q tt (c .number) (opened s c) (c .transform) (c .bounds) i w full _ ∙ ap halt (sym boxed)
+  module _ (c : OpenCell) (i : ℕ) (w v : Output) where
+    pub turn-exhausted : detailBudgetExhausted (query g) (w .state) ≡ true → v ≡ addLoadIfBoxed OtherLimit (c .number) (c .bounds) w → turn s f hidden depth c i w ≡ halt v
+    turn-exhausted full boxed = Paths.reference-step-exhausted g (c .number) (opened s c) (c .transform) (c .bounds) i w full _ ∙ ap halt (sym boxed)
 
     pub turn-goes : (number : ℕ)
-        → detailBudgetExhausted q (w .state) ≡ false
+        → detailBudgetExhausted (query g) (w .state) ≡ false
         → number ≡ cellReferenceAt s (c .at) i
-        → v ≡ visitReference (sheetOf s) f hidden depth number (c .transform) w
+        → v ≡ visitReference g depth number (c .transform) w
         → turn s f hidden depth c i w ≡ go v
     turn-goes number room listed visited =
-        Paths.reference-step-goes noTag onTape (sheetOf s) cellCount q tt (c .number) (opened s c) (c .transform) (c .bounds) i w room _
-        ∙ ap (λ (n : ℕ). go (visitReference (sheetOf s) f hidden depth n (c .transform) w)) (sym listed)
+        Paths.reference-step-goes g (c .number) (opened s c) (c .transform) (c .bounds) i w room _
+        ∙ ap (λ (n : ℕ). go (visitReference g depth n (c .transform) w)) (sym listed)
         ∙ ap go (sym visited)
 
   -- ---- `visit_cell`
 
-  module _ (cell : ℕ) (p : Placement) (w : World (List ℕ)) where
-    abbrev visited : World (List ℕ)
-    visited = visitCell (sheetOf s) f hidden depth cell p w
+  module _ (cell : ℕ) (p : Placement) (w : Output) where
+    abbrev visited : Output
+    visited = visitCell g depth cell p w
 
     pub cell-missing : find s 5 cell ≡ Nothing → w ≡ visited
-    cell-missing e = sym (Paths.cell-missing noTag onTape (sheetOf s) cellCount q depth tt cell p w (item-read cells s cell e))
+    cell-missing e = sym (Paths.cell-missing g depth cell p w (item-read cells s cell e))
 
     -- the cell is found at an offset, and its record is read
-    module _ (at : ℕ) (found : find s 5 cell ≡ At at) (record₁ : PreparedCell) (read : record₁ ≡ cellAt s at) (r : Entered) (w₁ : World (List ℕ))
-        (entered : leftOfCell (sheetOf s) f hidden on cell (cellRecordWith s at record₁) p r w₁ ≡ foundCell (sheetOf s) f hidden on cell (cellRecordWith s at record₁) p w) where
-      found-visited : leftOfCell (sheetOf s) f hidden on cell (cellRecordWith s at record₁) p r w₁ ≡ visited
+    module _ (at : ℕ) (found : find s 5 cell ≡ At at) (record₁ : PreparedCell) (read : record₁ ≡ cellAt s at) (r : Entered) (w₁ : Output)
+        (entered : leftOfCell g (onReference g depth) cell (cellRecordWith s at record₁) p r w₁ ≡ foundCell g (onReference g depth) cell (cellRecordWith s at record₁) p w) where
+      found-visited : leftOfCell g (onReference g depth) cell (cellRecordWith s at record₁) p r w₁ ≡ visited
       unfolding rules.visitCell cellRecordAt
       found-visited =
           entered
-          ∙ ap (λ (x : PreparedCell). foundCell (sheetOf s) f hidden on cell (cellRecordWith s at x) p w) read
-          ∙ sym (ap (λ (o : Option CellRecord). rules.visitFoundCell noTag onTape (sheetOf s) cellCount q on tt cell p o w) (item-read cells s cell found))
+          ∙ ap (λ (x : PreparedCell). foundCell g (onReference g depth) cell (cellRecordWith s at x) p w) read
+          ∙ sym (ap (λ (o : Option CellRecord). visitFoundCell g (onReference g depth) cell p o w) (item-read cells s cell found))
 
       abbrev opened-cell : OpenCell
       opened-cell = record { number = cell; at = at; «record» = record₁; transform = p; bounds = r .bounds }
 
+      -- its lists visited
+      abbrev lists : Output
+      lists = visitLists g opened-cell (opened s opened-cell) (onReference g depth) w₁
+
       pub cell-not-entered : not (r .goes) ≡ true → w₁ ≡ visited
-      cell-not-entered h = sym (ap (λ (b : Bool). cond b (setMark (openPlace cellCount cell) 0 (visitLists s f hidden opened-cell on w₁)) w₁) (not-true (r .goes) h)) ∙ found-visited
+      cell-not-entered h = sym (ap (λ (b : Bool). cond b (setMark (openPlace (f .counts .cells) cell) 0 lists) w₁) (not-true (r .goes) h)) ∙ found-visited
 
       -- its items listed, the loop over its references ends in a world, early or not, in which the cell is closed
-      pub cell-visited : not (r .goes) ≡ false → (references : ℕ) (w₂ : World (List ℕ)) (plan : ScenePlan) (o k m m′ : List ℕ)
-          → visitReferences s f hidden opened-cell on references w₂ ≡ visitLists s f hidden opened-cell on w₁
-          → visitReferences s f hidden opened-cell on references w₂ ≡ world plan o k m
-          → m′ ≡ set m (openPlace cellCount cell) 0
+      pub cell-visited : not (r .goes) ≡ false → (references : ℕ) (w₂ : Output) (plan : ScenePlan) (o k m m′ : List ℕ)
+          → visitReferences g opened-cell (opened s opened-cell) (onReference g depth) references w₂ ≡ lists
+          → visitReferences g opened-cell (opened s opened-cell) (onReference g depth) references w₂ ≡ world plan o k m
+          → m′ ≡ set m (openPlace (f .counts .cells) cell) 0
           → world plan o k m′ ≡ visited
       cell-visited h references w₂ plan o k m m′ listed ended closed =
           ap (λ (x : List ℕ). world plan o k x) closed
-          ∙ ap (setMark (openPlace cellCount cell) 0) (sym ended ∙ listed)
-          ∙ sym (ap (λ (b : Bool). cond b (setMark (openPlace cellCount cell) 0 (visitLists s f hidden opened-cell on w₁)) w₁) (not-false (r .goes) h))
+          ∙ ap (setMark (openPlace (f .counts .cells) cell) 0) (sym ended ∙ listed)
+          ∙ sym (ap (λ (b : Bool). cond b (setMark (openPlace (f .counts .cells) cell) 0 lists) w₁) (not-false (r .goes) h))
           ∙ found-visited
 
   -- ---- `visit_source`
 
-  module _ (source : PreparedSource) (n : ℕ) (p : Placement) (w : World (List ℕ)) where
+  module _ (source : PreparedSource) (n : ℕ) (p : Placement) (w : Output) where
     abbrev sourced : Flow (List ℕ)
-    sourced = visitSource (sheetOf s) f hidden depth source p w
+    sourced = visitSource g depth source p w
 
-    pub source-cell : source ≡ Cell n → (v : World (List ℕ)) → v ≡ visitCell (sheetOf s) f hidden depth n p w → go v ≡ sourced
-    source-cell e v f = rw e (ap go f ∙ sym (Paths.source-cell noTag onTape (sheetOf s) cellCount q depth tt n p w))
+    pub source-cell : source ≡ Cell n → (v : Output) → v ≡ visitCell g depth n p w → go v ≡ sourced
+    source-cell e v f = rw e (ap go f ∙ sym (Paths.source-cell g depth n p w))
 
-    pub source-geometry : source ≡ Geometry n → (v : World (List ℕ)) → v ≡ pushGeometry (sheetOf s) f hidden n p w → go v ≡ sourced
-    source-geometry e v f = rw e (ap go f ∙ sym (Paths.source-geometry noTag onTape (sheetOf s) cellCount q depth tt n p w))
+    pub source-geometry : source ≡ Geometry n → (v : Output) → v ≡ pushGeometry g n p w → go v ≡ sourced
+    source-geometry e v f = rw e (ap go f ∙ sym (Paths.source-geometry g depth n p w))
 
-    pub source-text : source ≡ Text n → (v : World (List ℕ)) → v ≡ pushText (sheetOf s) f hidden n p w → go v ≡ sourced
-    source-text e v f = rw e (ap go f ∙ sym (Paths.source-text noTag onTape (sheetOf s) cellCount q depth tt n p w))
+    pub source-text : source ≡ Text n → (v : Output) → v ≡ pushText g n p w → go v ≡ sourced
+    source-text e v f = rw e (ap go f ∙ sym (Paths.source-text g depth n p w))
 
-    pub source-node : source ≡ Node n → (x : Flow (List ℕ)) → x ≡ pushNode (sheetOf s) f hidden n p w → x ≡ sourced
-    source-node e x g = rw e (g ∙ sym (Paths.source-node noTag onTape (sheetOf s) cellCount q depth tt n p w))
+    pub source-node : source ≡ Node n → (x : Flow (List ℕ)) → x ≡ pushNode g n p w → x ≡ sourced
+    source-node e x h = rw e (h ∙ sym (Paths.source-node g depth n p w))
 
-    pub source-reference : source ≡ Reference n → (v : World (List ℕ)) → v ≡ visitReference (sheetOf s) f hidden depth n p w → go v ≡ sourced
-    source-reference e v f = rw e (ap go f ∙ sym (Paths.source-reference noTag onTape (sheetOf s) cellCount q depth tt n p w))
+    pub source-reference : source ≡ Reference n → (v : Output) → v ≡ visitReference g depth n p w → go v ≡ sourced
+    source-reference e v f = rw e (ap go f ∙ sym (Paths.source-reference g depth n p w))

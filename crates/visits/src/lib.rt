@@ -10,9 +10,8 @@ use records::PreparedSource;
 use visit_items::OpenCell;
 use walk::Found;
 ghost use mathlib.Core.Path.{_≡_};
-ghost use Rattle.abstract_sheet.specs.Sheet.{sheetOf};
 ghost use Rattle.plan_rules.specs.World.{flow};
-ghost use Rattle.plan_rules.specs.OnTape.{lent, visitCell, visitReference, visitSource};
+ghost use Rattle.plan_rules.specs.OnTape.{given, lent, visitCell, visitReference, visitSource};
 
 pub fn visit_cell(
     sheet: &[u8],
@@ -26,7 +25,7 @@ pub fn visit_cell(
     transform: Placement,
     depth: u32,
 ) -> ScenePlan
-    ensures { λ r. ⌜ lent r (out .exit) (counts .exit) (marks .exit) ≡ visitCell (sheetOf (now (sheet .entry))) fixed (now (hidden .entry)) depth cell transform (lent plan (out .entry) (counts .entry) (marks .entry)) ⌝ }
+    ensures { λ r. ⌜ lent r (out .exit) (counts .exit) (marks .exit) ≡ visitCell (given fixed (sheet .entry) (hidden .entry)) depth cell transform (lent plan (out .entry) (counts .entry) (marks .entry)) ⌝ }
 {
     let Found::At(at) = look_up::look_up(sheet, 5, cell) else {
         return plan; // the sheet lacks the cell
@@ -87,7 +86,7 @@ fn visit_reference(
     transform: Placement,
     depth: u32,
 ) -> ScenePlan
-    ensures { λ r. ⌜ lent r (out .exit) (counts .exit) (marks .exit) ≡ visitReference (sheetOf (now (sheet .entry))) fixed (now (hidden .entry)) depth number transform (lent plan (out .entry) (counts .entry) (marks .entry)) ⌝ }
+    ensures { λ r. ⌜ lent r (out .exit) (counts .exit) (marks .exit) ≡ visitReference (given fixed (sheet .entry) (hidden .entry)) depth number transform (lent plan (out .entry) (counts .entry) (marks .entry)) ⌝ }
 {
     let Found::At(at) = look_up::look_up(sheet, 4, number) else {
         return plan; // no sheet that passes question 7 names such a reference
@@ -177,7 +176,7 @@ fn visit_source(
     transform: Placement,
     depth: u32,
 ) -> Visited
-    ensures { λ r. ⌜ flow (r .whole) (lent (r .plan) (out .exit) (counts .exit) (marks .exit)) ≡ visitSource (sheetOf (now (sheet .entry))) fixed (now (hidden .entry)) depth source transform (lent plan (out .entry) (counts .entry) (marks .entry)) ⌝ }
+    ensures { λ r. ⌜ flow (r .whole) (lent (r .plan) (out .exit) (counts .exit) (marks .exit)) ≡ visitSource (given fixed (sheet .entry) (hidden .entry)) depth source transform (lent plan (out .entry) (counts .entry) (marks .entry)) ⌝ }
 {
     match source {
         PreparedSource::Cell(cell) => {

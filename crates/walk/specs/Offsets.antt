@@ -7,21 +7,22 @@ use mathlib.Core.Bool.{cond}
 use lib.ListN.{length}
 use lib.Dec.{ltb, leb}
 use Rattle.fields.specs.Field.{uintAt}
+use Rattle.fields.specs.Head.{sizeWidth, kindWidth, headWidth}
 
 -- a record's whole length
 abbrev pub lengthAt : List ℕ → ℕ → ℕ
-lengthAt s at = uintAt 4 s at
+lengthAt s at = uintAt sizeWidth s at
 
 -- a record's kind
 abbrev pub kindAt : List ℕ → ℕ → ℕ
-kindAt s at = uintAt 2 s (at + 4)
+kindAt s at = uintAt kindWidth s (at + sizeWidth)
 
 -- The records from `at` on, at most `steps` of them. Nothing follows a record that says it is shorter than its own head.
 unfoldable pub offsetsIn : ℕ → List ℕ → ℕ → List ℕ
 offsetsIn zero s at = []
 offsetsIn (suc steps) s at =
     let more = offsetsIn steps s (at + lengthAt s at) in
-    let here : List ℕ = at ∷ cond (leb 6 (lengthAt s at)) more [] in
+    let here : List ℕ = at ∷ cond (leb headWidth (lengthAt s at)) more [] in
     cond (ltb at (length s)) here []
 
 -- The offsets of the records from `at` on, as far as the sheet goes. As many steps as there are bytes are enough (`enough-steps`).
@@ -34,5 +35,5 @@ offsets s = offsetsFrom s 0
 
 -- the record at an offset has its head and lies whole within the sheet
 pub record Whole (s : List ℕ) (at : ℕ) : Type 0 where
-  pub head : 6 ≤ lengthAt s at
+  pub head : headWidth ≤ lengthAt s at
   pub within : at + lengthAt s at ≤ length s

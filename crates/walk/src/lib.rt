@@ -2,9 +2,6 @@
 ghost use mathlib.Core.Path.{_≡_};
 ghost use Rattle.walk.specs.Find.{find};
 
-// Where a record's kind stands: "whole length (4 bytes), kind (2), body".
-pub const KIND: usize = 4;
-
 // What a look-up finds: the offset of a record, or nothing.
 pub enum Found {
     At(usize),
@@ -18,14 +15,14 @@ pub fn find(s: &[u8], kind: u16, number: u32) -> Found
     let mut at = 0;
     let mut left = number;
     while at < s.len() {
-        if fields::u16_at(s, at + KIND) == kind {
+        if fields::u16_at(s, at + fields::KIND) == kind {
             if left == 0 {
                 return Found::At(at);
             }
             left -= 1;
         }
         let length = fields::u32_at(s, at) as usize;
-        if length < 6 {
+        if length < fields::HEAD {
             return Found::Nothing;
         }
         at += length;

@@ -1,4 +1,4 @@
--- `visit_cell` and `visit_source` by code path.
+-- `visit_cell` and `visit_source` by code path, at the code's end of the rules.
 -- Assumes nothing.
 use mathlib.Core.Path.{_≡_, refl}
 use mathlib.Core.Bool.{true, false}
@@ -7,77 +7,74 @@ use Prim.Native.Nat.{ℕ}
 use Rattle.geometry.specs.declared.bbox.Bounds.{Bounds}
 use Rattle.geometry.specs.declared.placement.Placement.{Placement}
 use Rattle.records.specs.declared.PreparedSource.the-variants.{Geometry, Text, Node, Reference, Cell}
-use Rattle.abstract_sheet.specs.Sheet.{CellRecord, Sheet}
+use Rattle.abstract_sheet.specs.Sheet.{CellRecord}
+use Rattle.plan_rules.specs.declared.Fixed.{Fixed}
 use Rattle.plan_rules.specs.declared.Reason.the-variants as reason
-use Rattle.plan_rules.specs.Event.{Event, Step, batchAt, textAt, nodeAt, referenceAt}
-use Rattle.plan_rules.specs.World.{Query, detailBudgetExhausted, World, go, halt}
-use Rattle.plan_rules.specs.Push.{addLoadIfBoxed, pushGeometry, pushText, pushNode}
-use Rattle.plan_rules.specs.Visit.{haltWithCell, VisitReference, geometryStep, textStep, nodeStep, referenceStep, visitFoundCell, visitSourceWith, visitReference, visitSource, visitCell}
+use Rattle.plan_rules.specs.World.{detailBudgetExhausted, go, halt}
+use Rattle.plan_rules.specs.Visit as visit
+use Rattle.plan_rules.specs.OnTape.{Given, Output, query, addLoadIfBoxed, haltWithCell, pushGeometry, pushText, pushNode, VisitReference, geometryStep, textStep, nodeStep, referenceStep, visitCell, visitReference, visitSource}
 
-module _ {P A : Type 0} (enter : Step → P → P) (emit : P → Event → ℕ → A → A) (S : Sheet) (cells : ℕ) (q : Query) where
+module _ {f : Fixed} (g : Given f) where
   -- ---- a turn of each loop
 
-  module _ (t : P) (n : ℕ) (c : CellRecord) (p : Placement) (box : Bounds) (i : ℕ) (w : World A) where
-    module _ (full : detailBudgetExhausted q (w .state) ≡ true) where
-      pub geometry-step-exhausted : geometryStep enter emit S cells q t n c p box i w ≡ halt (addLoadIfBoxed enter emit t reason.OtherLimit n box w)
-      unfolding geometryStep
+  module _ (n : ℕ) (c : CellRecord) (p : Placement) (box : Bounds) (i : ℕ) (w : Output) where
+    module _ (full : detailBudgetExhausted (query g) (w .state) ≡ true) where
+      pub geometry-step-exhausted : geometryStep g n c p box i w ≡ halt (addLoadIfBoxed reason.OtherLimit n box w)
+      unfolding visit.geometryStep
       geometry-step-exhausted = rw full
 
-      pub text-step-exhausted : textStep enter emit S cells q t n c p box i w ≡ halt (addLoadIfBoxed enter emit t reason.OtherLimit n box w)
-      unfolding textStep
+      pub text-step-exhausted : textStep g n c p box i w ≡ halt (addLoadIfBoxed reason.OtherLimit n box w)
+      unfolding visit.textStep
       text-step-exhausted = rw full
 
-      pub node-step-exhausted : nodeStep enter emit S cells q t n c p box i w ≡ halt (addLoadIfBoxed enter emit t reason.OtherLimit n box w)
-      unfolding nodeStep
+      pub node-step-exhausted : nodeStep g n c p box i w ≡ halt (addLoadIfBoxed reason.OtherLimit n box w)
+      unfolding visit.nodeStep
       node-step-exhausted = rw full
 
-      pub reference-step-exhausted : (visit : VisitReference enter emit S cells q) → referenceStep enter emit S cells q t n c p box visit i w ≡ halt (addLoadIfBoxed enter emit t reason.OtherLimit n box w)
-      unfolding referenceStep
-      reference-step-exhausted visit = rw full
+      pub reference-step-exhausted : (on : VisitReference g) → referenceStep g n c p box on i w ≡ halt (addLoadIfBoxed reason.OtherLimit n box w)
+      unfolding visit.referenceStep
+      reference-step-exhausted on = rw full
 
-    module _ (room : detailBudgetExhausted q (w .state) ≡ false) where
-      pub geometry-step-goes : geometryStep enter emit S cells q t n c p box i w ≡ go (pushGeometry enter emit S q (enter (batchAt i) t) (c .geometries .at i) p w)
-      unfolding geometryStep
+    module _ (room : detailBudgetExhausted (query g) (w .state) ≡ false) where
+      pub geometry-step-goes : geometryStep g n c p box i w ≡ go (pushGeometry g (c .geometries .at i) p w)
+      unfolding visit.geometryStep
       geometry-step-goes = rw room
 
-      pub text-step-goes : textStep enter emit S cells q t n c p box i w ≡ go (pushText enter emit S q (enter (textAt i) t) (c .texts .at i) p w)
-      unfolding textStep
+      pub text-step-goes : textStep g n c p box i w ≡ go (pushText g (c .texts .at i) p w)
+      unfolding visit.textStep
       text-step-goes = rw room
 
-      pub node-step-with-room : nodeStep enter emit S cells q t n c p box i w ≡ haltWithCell enter emit t n box (pushNode enter emit S q (enter (nodeAt i) t) (c .nodes .at i) p w)
-      unfolding nodeStep
+      pub node-step-with-room : nodeStep g n c p box i w ≡ haltWithCell n box (pushNode g (c .nodes .at i) p w)
+      unfolding visit.nodeStep
       node-step-with-room = rw room
 
-      pub reference-step-goes : (visit : VisitReference enter emit S cells q) → referenceStep enter emit S cells q t n c p box visit i w ≡ go (visit (enter (referenceAt i) t) (c .references .at i) p w)
-      unfolding referenceStep
-      reference-step-goes visit = rw room
+      pub reference-step-goes : (on : VisitReference g) → referenceStep g n c p box on i w ≡ go (on tt (c .references .at i) p w)
+      unfolding visit.referenceStep
+      reference-step-goes on = rw room
 
-  -- ---- `visit_cell`
+  -- ---- `visit_cell` and `visit_source`
 
-  module _ (d : ℕ) (t : P) (n : ℕ) (p : Placement) (w : World A) where
-    pub cell-missing : S .cell n ≡ none → visitCell enter emit S cells q d t n p w ≡ w
-    unfolding visitCell visitFoundCell
+  module _ (d n : ℕ) (p : Placement) (w : Output) where
+    pub cell-missing : g .sheet .cell n ≡ none → visitCell g d n p w ≡ w
+    unfolding visit.visitCell visit.visitFoundCell
     cell-missing e = rw e
 
-  -- ---- `visit_source`
-
-  module _ (d : ℕ) (t : P) (n : ℕ) (p : Placement) (w : World A) where
-    pub source-geometry : visitSource enter emit S cells q d t (Geometry n) p w ≡ go (pushGeometry enter emit S q t n p w)
-    unfolding visitSource visitSourceWith
+    pub source-geometry : visitSource g d (Geometry n) p w ≡ go (pushGeometry g n p w)
+    unfolding visit.visitSource visit.visitSourceWith
     source-geometry = refl
 
-    pub source-text : visitSource enter emit S cells q d t (Text n) p w ≡ go (pushText enter emit S q t n p w)
-    unfolding visitSource visitSourceWith
+    pub source-text : visitSource g d (Text n) p w ≡ go (pushText g n p w)
+    unfolding visit.visitSource visit.visitSourceWith
     source-text = refl
 
-    pub source-node : visitSource enter emit S cells q d t (Node n) p w ≡ pushNode enter emit S q t n p w
-    unfolding visitSource visitSourceWith
+    pub source-node : visitSource g d (Node n) p w ≡ pushNode g n p w
+    unfolding visit.visitSource visit.visitSourceWith
     source-node = refl
 
-    pub source-reference : visitSource enter emit S cells q d t (Reference n) p w ≡ go (visitReference enter emit S cells q d t n p w)
-    unfolding visitSource visitSourceWith
+    pub source-reference : visitSource g d (Reference n) p w ≡ go (visitReference g d n p w)
+    unfolding visit.visitSource visit.visitSourceWith
     source-reference = refl
 
-    pub source-cell : visitSource enter emit S cells q d t (Cell n) p w ≡ go (visitCell enter emit S cells q d t n p w)
-    unfolding visitSource visitSourceWith visitCell
+    pub source-cell : visitSource g d (Cell n) p w ≡ go (visitCell g d n p w)
+    unfolding visit.visitSource visit.visitSourceWith visit.visitCell
     source-cell = refl

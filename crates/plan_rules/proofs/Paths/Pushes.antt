@@ -1,4 +1,4 @@
--- `add_load`, `push_geometry`, `push_text` and `push_node` by code path.
+-- `add_load`, `push_geometry`, `push_text` and `push_node` by code path, at the code's end of the rules.
 -- Assumes nothing.
 use mathlib.Core.Path.{_≡_}
 use mathlib.Core.Bool.{true, false}
@@ -15,116 +15,119 @@ use Rattle.geometry.specs.Screen.{screenSize, isSubpixel, isDenseBatch}
 use Rattle.records.specs.declared.PreparedGeometry.{PreparedGeometry}
 use Rattle.records.specs.declared.PreparedText.{PreparedText}
 use Rattle.records.specs.Sources.{noLabel}
-use Rattle.abstract_sheet.specs.Sheet.{NodeRecord, Sheet}
+use Rattle.abstract_sheet.specs.Sheet.{NodeRecord}
 use Rattle.plan_rules.specs.Limits.{maxLoadProxies}
+use Rattle.plan_rules.specs.declared.Fixed.{Fixed}
 use Rattle.plan_rules.specs.declared.Reason.{Reason}
 use Rattle.plan_rules.specs.declared.Reason.the-variants as reason
-use Rattle.plan_rules.specs.Event.{Event, batch, text, point, proxy, droppedProxy, skippedBatch, culledBatch, Step, pointAt}
-use Rattle.plan_rules.specs.World.{Query, hides, detailBudgetExhausted, World, go, halt, each}
-use Rattle.plan_rules.specs.Push.{say, addLoad, pushFoundGeometry, pushGeometry, pushFoundText, pushText, pushPoint, pushFoundNode, pushNode}
+use Rattle.plan_rules.specs.Event.{batch, text, point, proxy, droppedProxy, skippedBatch, culledBatch}
+use Rattle.plan_rules.specs.World.{hides, detailBudgetExhausted, go, halt}
+use Rattle.plan_rules.specs.Push as push
+use Rattle.plan_rules.specs.OnTape.{Given, Output, query, say, addLoad, pushGeometry, pushText, pushPoint, pushPoints, pushNode}
 
-module _ {P A : Type 0} (enter : Step → P → P) (emit : P → Event → ℕ → A → A) where
-  -- ---- `add_load`
+-- ---- `add_load`
 
-  module _ (t : P) (y : Reason) (l : ℕ) (b : WorldBBox) (w : World A) where
-    pub load-listed : w .state .«load_proxies» < maxLoadProxies → addLoad enter emit t y l b w ≡ say enter emit t (proxy y l b) w
-    unfolding addLoad
-    load-listed h = rw (lt-ltb _ _ h)
+module _ (y : Reason) (l : ℕ) (b : WorldBBox) (w : Output) where
+  pub load-listed : w .state .«load_proxies» < maxLoadProxies → addLoad y l b w ≡ say (proxy y l b) w
+  unfolding push.addLoad
+  load-listed h = rw (lt-ltb _ _ h)
 
-    pub load-dropped : maxLoadProxies ≤ w .state .«load_proxies» → addLoad enter emit t y l b w ≡ say enter emit t (droppedProxy y l b) w
-    unfolding addLoad
-    load-dropped h = rw (le-ltb _ _ h)
+  pub load-dropped : maxLoadProxies ≤ w .state .«load_proxies» → addLoad y l b w ≡ say (droppedProxy y l b) w
+  unfolding push.addLoad
+  load-dropped h = rw (le-ltb _ _ h)
 
-  module _ (S : Sheet) (q : Query) (t : P) where
+-- a batch's placed box, its size on the screen, and a point's position
+abbrev boxOf : Placement → PreparedGeometry → WorldBBox
+boxOf p x = transformBbox p (x .bbox)
+
+abbrev sizeOf : Fixed → Placement → PreparedGeometry → ScreenSize
+sizeOf f p x = screenSize (boxOf p x) (f .options .zoom)
+
+abbrev positionOf : Placement → NodeRecord → ℕ → DVec2
+positionOf p x j = transformPoint2 p (x .point j)
+
+module _ {f : Fixed} (g : Given f) where
+  module _ (n : ℕ) (p : Placement) (w : Output) where
     -- ---- `push_geometry`
 
-    module _ (n : ℕ) (p : Placement) (w : World A) where
-      pub geometry-missing : S .geometry n ≡ none → pushGeometry enter emit S q t n p w ≡ w
-      unfolding pushGeometry pushFoundGeometry
-      geometry-missing e = rw e
+    pub geometry-missing : g .sheet .geometry n ≡ none → pushGeometry g n p w ≡ w
+    unfolding push.pushGeometry push.pushFoundGeometry
+    geometry-missing e = rw e
 
-      module _ (g : PreparedGeometry) (e : S .geometry n ≡ some g) where
-        abbrev box : WorldBBox
-        box = transformBbox p (g .bbox)
+    module _ {x : PreparedGeometry} (e : g .sheet .geometry n ≡ some x) where
+      pub geometry-hidden : hides (query g) (x .layer) (x .«data_type») ≡ true → pushGeometry g n p w ≡ w
+      unfolding push.pushGeometry push.pushFoundGeometry
+      geometry-hidden h = rw (e, h)
 
-        abbrev size : ScreenSize
-        size = screenSize box (q .zoom)
+      module _ (shown : hides (query g) (x .layer) (x .«data_type») ≡ false) where
+        pub geometry-culled : overlaps (boxOf p x) (f .options .view) ≡ false → pushGeometry g n p w ≡ say culledBatch w
+        unfolding push.pushGeometry push.pushFoundGeometry
+        geometry-culled a = rw (e, shown, a)
 
-        pub geometry-hidden : hides q (g .layer) (g .«data_type») ≡ true → pushGeometry enter emit S q t n p w ≡ w
-        unfolding pushGeometry pushFoundGeometry
-        geometry-hidden h = rw (e, h)
+        module _ (seen : overlaps (boxOf p x) (f .options .view) ≡ true) where
+          pub geometry-skipped : isSubpixel (sizeOf f p x) ≡ true → pushGeometry g n p w ≡ say (skippedBatch (boxOf p x)) w
+          unfolding push.pushGeometry push.pushFoundGeometry
+          geometry-skipped a = rw (e, shown, seen, a)
 
-        module _ (shown : hides q (g .layer) (g .«data_type») ≡ false) where
-          pub geometry-culled : overlaps box (q .view) ≡ false → pushGeometry enter emit S q t n p w ≡ say enter emit t culledBatch w
-          unfolding pushGeometry pushFoundGeometry
-          geometry-culled a = rw (e, shown, a)
+          module _ (large : isSubpixel (sizeOf f p x) ≡ false) where
+            pub geometry-dense : isDenseBatch (sizeOf f p x) (x .«element_count») ≡ true → pushGeometry g n p w ≡ addLoad reason.DenseBatch noLabel (boxOf p x) w
+            unfolding push.pushGeometry push.pushFoundGeometry
+            geometry-dense a = rw (e, shown, seen, large, a)
 
-          module _ (seen : overlaps box (q .view) ≡ true) where
-            pub geometry-skipped : isSubpixel size ≡ true → pushGeometry enter emit S q t n p w ≡ say enter emit t (skippedBatch box) w
-            unfolding pushGeometry pushFoundGeometry
-            geometry-skipped a = rw (e, shown, seen, a)
+            module _ (sparse : isDenseBatch (sizeOf f p x) (x .«element_count») ≡ false) where
+              pub geometry-exhausted : detailBudgetExhausted (query g) (w .state) ≡ true → pushGeometry g n p w ≡ addLoad reason.OtherLimit noLabel (boxOf p x) w
+              unfolding push.pushGeometry push.pushFoundGeometry
+              geometry-exhausted a = rw (e, shown, seen, large, sparse, a)
 
-            module _ (large : isSubpixel size ≡ false) where
-              pub geometry-dense : isDenseBatch size (g .«element_count») ≡ true → pushGeometry enter emit S q t n p w ≡ addLoad enter emit t reason.DenseBatch noLabel box w
-              unfolding pushGeometry pushFoundGeometry
-              geometry-dense a = rw (e, shown, seen, large, a)
+              pub geometry-listed : detailBudgetExhausted (query g) (w .state) ≡ false → pushGeometry g n p w ≡ say (batch n p) w
+              unfolding push.pushGeometry push.pushFoundGeometry
+              geometry-listed a = rw (e, shown, seen, large, sparse, a)
 
-              pub geometry-exhausted : isDenseBatch size (g .«element_count») ≡ false → detailBudgetExhausted q (w .state) ≡ true → pushGeometry enter emit S q t n p w ≡ addLoad enter emit t reason.OtherLimit noLabel box w
-              unfolding pushGeometry pushFoundGeometry
-              geometry-exhausted a x = rw (e, shown, seen, large, a, x)
+    -- ---- `push_text`
 
-              pub geometry-listed : isDenseBatch size (g .«element_count») ≡ false → detailBudgetExhausted q (w .state) ≡ false → pushGeometry enter emit S q t n p w ≡ say enter emit t (batch n p) w
-              unfolding pushGeometry pushFoundGeometry
-              geometry-listed a x = rw (e, shown, seen, large, a, x)
+    pub text-missing : g .sheet .text n ≡ none → pushText g n p w ≡ w
+    unfolding push.pushText push.pushFoundText
+    text-missing e = rw e
 
-      -- ---- `push_text`
+    module _ {x : PreparedText} (e : g .sheet .text n ≡ some x) where
+      pub text-hidden : hides (query g) (x .layer) (x .«data_type») ≡ true → pushText g n p w ≡ w
+      unfolding push.pushText push.pushFoundText
+      text-hidden h = rw (e, h)
 
-      pub text-missing : S .text n ≡ none → pushText enter emit S q t n p w ≡ w
-      unfolding pushText pushFoundText
-      text-missing e = rw e
+      module _ (shown : hides (query g) (x .layer) (x .«data_type») ≡ false) where
+        pub text-outside : pointInBbox (transformPoint2 p (x .origin)) (f .options .view) ≡ false → pushText g n p w ≡ w
+        unfolding push.pushText push.pushFoundText
+        text-outside a = rw (e, shown, a)
 
-      module _ (x : PreparedText) (e : S .text n ≡ some x) where
-        pub text-hidden : hides q (x .layer) (x .«data_type») ≡ true → pushText enter emit S q t n p w ≡ w
-        unfolding pushText pushFoundText
-        text-hidden h = rw (e, h)
+        pub text-listed : pointInBbox (transformPoint2 p (x .origin)) (f .options .view) ≡ true → pushText g n p w ≡ say (text n (transformPoint2 p (x .origin))) w
+        unfolding push.pushText push.pushFoundText
+        text-listed a = rw (e, shown, a)
 
-        pub text-outside : hides q (x .layer) (x .«data_type») ≡ false → pointInBbox (transformPoint2 p (x .origin)) (q .view) ≡ false → pushText enter emit S q t n p w ≡ w
-        unfolding pushText pushFoundText
-        text-outside h a = rw (e, h, a)
+    -- ---- `push_node`
 
-        pub text-listed : hides q (x .layer) (x .«data_type») ≡ false → pointInBbox (transformPoint2 p (x .origin)) (q .view) ≡ true
-            → pushText enter emit S q t n p w ≡ say enter emit t (text n (transformPoint2 p (x .origin))) w
-        unfolding pushText pushFoundText
-        text-listed h a = rw (e, h, a)
+    pub node-missing : g .sheet .node n ≡ none → pushNode g n p w ≡ go w
+    unfolding push.pushNode push.pushFoundNode
+    node-missing e = rw e
 
-      -- ---- `push_node`
+    module _ {x : NodeRecord} (e : g .sheet .node n ≡ some x) where
+      pub node-hidden : hides (query g) (x .layer) (x .«node_type») ≡ true → pushNode g n p w ≡ go w
+      unfolding push.pushNode push.pushFoundNode
+      node-hidden h = rw (e, h)
 
-      pub node-missing : S .node n ≡ none → pushNode enter emit S q t n p w ≡ go w
-      unfolding pushNode pushFoundNode
-      node-missing e = rw e
+      pub node-shown : hides (query g) (x .layer) (x .«node_type») ≡ false → pushNode g n p w ≡ pushPoints g p x w
+      unfolding push.pushNode push.pushFoundNode
+      node-shown h = rw (e, h)
 
-      module _ (x : NodeRecord) (e : S .node n ≡ some x) where
-        pub node-hidden : hides q (x .layer) (x .«node_type») ≡ true → pushNode enter emit S q t n p w ≡ go w
-        unfolding pushNode pushFoundNode
-        node-hidden h = rw (e, h)
+  module _ (p : Placement) (x : NodeRecord) (j : ℕ) (w : Output) where
+    pub point-outside : pointInBbox (positionOf p x j) (f .options .view) ≡ false → pushPoint g p x j w ≡ go w
+    unfolding push.pushPoint
+    point-outside a = rw a
 
-        pub node-shown : hides q (x .layer) (x .«node_type») ≡ false → pushNode enter emit S q t n p w ≡ each (pushPoint enter emit S q t p x) (x .count) 0 w
-        unfolding pushNode pushFoundNode
-        node-shown h = rw (e, h)
+    module _ (inside : pointInBbox (positionOf p x j) (f .options .view) ≡ true) where
+      pub point-exhausted : detailBudgetExhausted (query g) (w .state) ≡ true → pushPoint g p x j w ≡ halt w
+      unfolding push.pushPoint
+      point-exhausted b = rw (inside, b)
 
-    module _ (p : Placement) (x : NodeRecord) (j : ℕ) (w : World A) where
-      abbrev position : DVec2
-      position = transformPoint2 p (x .point j)
-
-      pub point-outside : pointInBbox position (q .view) ≡ false → pushPoint enter emit S q t p x j w ≡ go w
-      unfolding pushPoint
-      point-outside a = rw a
-
-      pub point-exhausted : pointInBbox position (q .view) ≡ true → detailBudgetExhausted q (w .state) ≡ true → pushPoint enter emit S q t p x j w ≡ halt w
-      unfolding pushPoint
-      point-exhausted a b = rw (a, b)
-
-      pub point-listed : pointInBbox position (q .view) ≡ true → detailBudgetExhausted q (w .state) ≡ false
-          → pushPoint enter emit S q t p x j w ≡ go (say enter emit (enter (pointAt j) t) (point (x .layer) (x .«node_type») position) w)
-      unfolding pushPoint
-      point-listed a b = rw (a, b)
+      pub point-listed : detailBudgetExhausted (query g) (w .state) ≡ false → pushPoint g p x j w ≡ go (say (point (x .layer) (x .«node_type») (positionOf p x j)) w)
+      unfolding push.pushPoint
+      point-listed b = rw (inside, b)

@@ -2,6 +2,7 @@
 -- Assumes nothing.
 use mathlib.Core.Path.{_∙_}
 use denote.Ref.{now}
+use Rattle.plan_rules.specs.OnTape.{given}
 use Rattle.planner.proofs.Sweep.{clean}
 use borrow.Author.Needs.{needs}
 use Rattle.planner.proofs.clean.visit_clean.Statement.{statement}
@@ -16,7 +17,7 @@ returns c =
     let marks-zeroed = empty .before .before .before .before .before .before in
     let counts-zeroed = marks-zeroed .before .before .before .before in
     let a = counts-zeroed .before .before .before .before .before .before .before .args in
-    clean _ _ _ _ (now (a .counts)) (now (a .marks)) _ _ _ _ _ _ _ _ _ (counts-zeroed .clear-counts .ensures) (marks-zeroed .clear-bytes .ensures) (empty .empty-plan .ensures) (run .visit-root .ensures)
+    clean (given (a .fixed) (a .sheet) (a .hidden)) _ (now (a .counts)) (now (a .marks)) _ _ _ _ _ _ _ _ _ (counts-zeroed .clear-counts .ensures) (marks-zeroed .clear-bytes .ensures) (empty .empty-plan .ensures) (run .visit-root .ensures)
     (run .visit-root .kept .1 .1 .1 .1 .0 ∙ counts-zeroed .clear-counts .kept .0)
     (run .visit-root .kept .1 .1 .1 .1 .1 .0 ∙ marks-zeroed .clear-bytes .kept .0)
     (counts-again .clear-counts2 .ensures) (marks-again .clear-bytes2 .ensures)

@@ -3,6 +3,7 @@
 use mathlib.Core.Path.{sym, _∙_}
 use native.Mathlib.Omega.{arith}
 use lib.Seq.{length-take-le}
+use Rattle.plan_rules.specs.OnTape.{given}
 use Rattle.plan_rules.proofs.OutcomeTheorem.{query-refused, query-passed}
 use Rattle.check_query.proofs.Lent.{counts-lent, marks-lent}
 use Rattle.planner.proofs.Delivered.{sweep-delivered}
@@ -46,9 +47,10 @@ planned c =
     let else1 = counts-named .before in
     let asked = else1 .before in
     let start = asked .before .before .before .before .before .before .before in
+    let a = start .args in
     let counts = counts-lent _ _ _ _ _ _ (asked .query-refusal .ensures) (else1 .if1 .left) (counts-named .counts-named .ensures) in
     let marks = marks-lent _ _ _ _ _ _ (asked .query-refusal .ensures) (else1 .if1 .left) (marks-named .marks-named .ensures) in
-    sweep-delivered _ _ _ _ _ _ _ _ (counts-named .counts-named .ensures) (marks-named .marks-named .ensures) counts marks
+    sweep-delivered (given (a .fixed) (a .sheet) (a .hidden)) _ _ _ _ _ (counts-named .counts-named .ensures) (marks-named .marks-named .ensures) counts marks
     (omega (arith, start .good)) _ _ _ _ (at-visit-clean .visit-clean .ensures) (at-finish .finish .result) _ (at-finish .finish .ensures)
     ∙ sym (query-passed _ _ _ _ _ _ (sym (asked .query-refusal .ensures) ∙ else1 .if1 .left))
 

@@ -1,6 +1,8 @@
 -- `planner::root::load_root` meets its contract: one law of the rules for each way out.
 -- Assumes nothing.
 use mathlib.Core.Path.{sym, ap, _∙_}
+use mathlib.Core.List.{List}
+use Prim.Native.Nat.{ℕ}
 use denote.Ref.{now}
 use borrow.Author.Tests.{not-true, not-false}
 use Rattle.geometry.specs.declared.bbox.WorldBBox.{WorldBBox}
@@ -10,17 +12,19 @@ use Rattle.abstract_sheet.specs.Sheet.{cells, cellRecordAt}
 use Rattle.abstract_sheet.proofs.Lookup.{item-read}
 use Rattle.plan_rules.specs.World.{world}
 use Rattle.plan_rules.specs.declared.Reason.the-variants.{DepthZero}
-use Rattle.plan_rules.specs.OnTape.{addLoad}
-use Rattle.plan_rules.specs.Tape.{noTag, onTape}
+use Rattle.plan_rules.specs.OnTape.{Given, givenBytes, addLoad}
 use Rattle.plan_rules.proofs.Paths.Plans.{root-missing, root-unboxed, root-outside, root-loaded}
 use borrow.Author.Needs.{needs}
 use Rattle.planner.proofs.root.load_root.Statement.{statement}
 use Rattle.planner.proofs.root.load_root.Tie as tie
 
+abbrev lent-to : (c : tie.After-look-up) → List ℕ → Given (c .before .before .before .args .fixed)
+lent-to c hidden = let a = c .before .before .before .args in givenBytes (a .fixed) (now (a .sheet)) hidden
+
 missing : tie.Need-returns
 missing c =
     let at-look-up = c .before .before in
-    λ hidden k m. sym (root-missing noTag onTape _ _ _ tt _ (item-read cells _ _ (sym (at-look-up .look-up .ensures) ∙ c .enum-told .given .1)))
+    λ hidden k m. sym (root-missing (lent-to at-look-up hidden) _ (item-read cells _ _ (sym (at-look-up .look-up .ensures) ∙ c .enum-told .given .1)))
 
 unboxed : tie.Need-returns-2
 unfolding cellRecordAt
@@ -30,7 +34,7 @@ unboxed c =
     let at-look-up = at-at .before .before in
     let there = item-read cells _ _ (sym (at-look-up .look-up .ensures) ∙ at-at .at .given .1) in
     let box = sym (ap (λ (r : PreparedCell). r .bbox) (at-cell-at .cell-at .ensures)) ∙ c .enum-told2 .given .1 in
-    λ hidden k m. sym (root-unboxed noTag onTape _ _ _ tt _ _ there box)
+    λ hidden k m. sym (root-unboxed (lent-to at-look-up hidden) _ there box)
 
 outside : tie.Need-returns-3
 unfolding cellRecordAt
@@ -45,7 +49,7 @@ outside c =
     let there = item-read cells _ _ (sym (at-look-up .look-up .ensures) ∙ at-at .at .given .1) in
     let box = sym (ap (λ (r : PreparedCell). r .bbox) (at-cell-at .cell-at .ensures)) ∙ at-bounds .bounds .given .1 in
     let unseen = sym (ap (λ (b : WorldBBox). overlaps b (a .fixed .options .view)) (at-new .new .ensures)) ∙ sym (at-overlaps .overlaps .ensures) ∙ not-true _ (c .if1 .taken) in
-    λ hidden k m. sym (root-outside noTag onTape _ _ _ tt _ _ there _ _ _ _ box unseen)
+    λ hidden k m. sym (root-outside (lent-to at-look-up hidden) _ there box unseen)
 
 loaded : tie.Need-returns-4
 unfolding cellRecordAt
@@ -65,7 +69,7 @@ loaded c =
     λ hidden k m.
     at-add-load .add-load .ensures k m
     ∙ ap (λ (b : WorldBBox). addLoad DepthZero (a .fixed .options .root) b (world (a .plan) (now (a .out)) k m)) (at-new .new .ensures)
-    ∙ sym (root-loaded noTag onTape _ _ _ tt _ _ there _ _ _ _ box seen)
+    ∙ sym (root-loaded (lent-to at-look-up hidden) _ there box seen)
 
 pub load-root-spec : {M : Type 1} → statement M
 load-root-spec =

@@ -5,10 +5,8 @@ use Prim.Native.Nat.{ℕ}
 use native.Mathlib.Omega.{arith}
 use denote.Ref.{now}
 use Rattle.geometry.specs.declared.placement.Placement.{Placement}
-use Rattle.abstract_sheet.specs.Sheet.{sheetOf}
 use Rattle.plan_rules.specs.World.{world}
-use Rattle.plan_rules.specs.OnTape.{visitCell, visitRoot}
-use Rattle.plan_rules.specs.Tape.{noTag, onTape}
+use Rattle.plan_rules.specs.OnTape.{given, visitCell, visitRoot}
 use Rattle.plan_rules.proofs.Paths.Plans.{root-visited}
 use borrow.Author.Needs.{needs}
 use Rattle.planner.proofs.root.visit_root.Statement.{statement}
@@ -22,7 +20,7 @@ loaded c =
     let w = world (a .plan) (now (a .out)) (now (a .counts)) (now (a .marks)) in
     let nought : a .fixed .options .depth ≡ 0 = omega (arith, at-if1 .if1 .taken) in
     at-load-root .load-root .ensures (now (a .hidden)) (now (a .counts)) (now (a .marks))
-    ∙ sym (ap (λ (d : ℕ). visitRoot (sheetOf (now (a .sheet))) (a .fixed) (now (a .hidden)) d w) nought)
+    ∙ sym (ap (λ (d : ℕ). visitRoot (given (a .fixed) (a .sheet) (a .hidden)) d w) nought)
 
 visited : tie.Need-returns-2
 visited c =
@@ -32,8 +30,8 @@ visited c =
     let a = at-if1 .before .before .before .before .before .before .before .args in
     let w = world (a .plan) (now (a .out)) (now (a .counts)) (now (a .marks)) in
     at-visit-cell .visit-cell .ensures
-    ∙ ap (λ (p : Placement). visitCell (sheetOf (now (a .sheet))) (a .fixed) (now (a .hidden)) (a .fixed .options .depth) (a .fixed .options .root) p w) (at-identity .identity .ensures)
-    ∙ sym (root-visited noTag onTape _ _ _ tt _ _ (omega (arith, at-if1 .if1 .left)))
+    ∙ ap (λ (p : Placement). visitCell (given (a .fixed) (a .sheet) (a .hidden)) (a .fixed .options .depth) (a .fixed .options .root) p w) (at-identity .identity .ensures)
+    ∙ sym (root-visited (given (a .fixed) (a .sheet) (a .hidden)) _ _ (omega (arith, at-if1 .if1 .left)))
 
 pub visit-root-spec : {M : Type 1} → statement M
 visit-root-spec =

@@ -16,8 +16,7 @@ use Rattle.abstract_sheet.proofs.Lookup.{item-read}
 use Rattle.plan_rules.specs.World.{Query, hides, detailBudgetExhausted, World, world}
 use Rattle.plan_rules.specs.declared.Reason.{Reason}
 use Rattle.records.specs.Sources.{noLabel}
-use Rattle.plan_rules.specs.OnTape.{fixedQuery, addLoad}
-use Rattle.plan_rules.specs.Tape.{noTag, onTape}
+use Rattle.plan_rules.specs.OnTape.{Given, given, query, addLoad}
 use Rattle.plan_rules.proofs.Paths.Pushes.{geometry-missing, geometry-hidden, geometry-culled, geometry-skipped, geometry-dense, geometry-exhausted, geometry-listed}
 use borrow.Author.Needs.{needs}
 use Rattle.pushes.proofs.items.push_geometry.Statement.{statement}
@@ -29,8 +28,11 @@ use Rattle.pushes.proofs.items.push_geometry.Tie as tie
 abbrev start : tie.After-geometry-at → tie.Start
 start c = c .before .before .before .before .before .before .before .before
 
-abbrev query : tie.After-geometry-at → Query
-query c = fixedQuery (start c .args .fixed) (now (start c .args .hidden))
+abbrev lent-to : (c : tie.After-geometry-at) → Given (start c .args .fixed)
+lent-to c = given (start c .args .fixed) (start c .args .sheet) (start c .args .hidden)
+
+abbrev asks : tie.After-geometry-at → Query
+asks c = query (lent-to c)
 
 abbrev entered : tie.After-geometry-at → List ℕ → List ℕ → World (List ℕ)
 entered c k m = world (start c .args .plan) (now (start c .args .out)) k m
@@ -43,43 +45,43 @@ there c =
     let at-at = c .before .before in
     item-read geometries _ _ (sym (at-at .before .before .look-up .ensures) ∙ at-at .at .given .1) ∙ ap some (sym (c .geometry-at .ensures))
 
-asked-hidden : (c : tie.After-is-hidden) → hides (query (c .before)) (c .before .geometry-at .result .layer) (c .before .geometry-at .result .«data_type») ≡ c .is-hidden .result
+asked-hidden : (c : tie.After-is-hidden) → hides (asks (c .before)) (c .before .geometry-at .result .layer) (c .before .geometry-at .result .«data_type») ≡ c .is-hidden .result
 asked-hidden c = sym (c .is-hidden .ensures (start (c .before) .args .fixed))
 
 -- the batch is shown
 abbrev shown-batch : tie.Else1 → tie.After-geometry-at
 shown-batch c = c .before .before
 
-shown : (c : tie.Else1) → hides (query (shown-batch c)) (shown-batch c .geometry-at .result .layer) (shown-batch c .geometry-at .result .«data_type») ≡ false
+shown : (c : tie.Else1) → hides (asks (shown-batch c)) (shown-batch c .geometry-at .result .layer) (shown-batch c .geometry-at .result .«data_type») ≡ false
 shown c = asked-hidden (c .before) ∙ c .if1 .left
 
-asked-seen : (c : tie.After-overlaps) → overlaps (placed (shown-batch (c .before .before))) (query (shown-batch (c .before .before)) .view) ≡ c .overlaps .result
-asked-seen c = sym (c .overlaps .ensures ∙ ap (λ (b : WorldBBox). overlaps b (query (shown-batch (c .before .before)) .view)) (c .before .transform-bbox .ensures))
+asked-seen : (c : tie.After-overlaps) → overlaps (placed (shown-batch (c .before .before))) (asks (shown-batch (c .before .before)) .view) ≡ c .overlaps .result
+asked-seen c = sym (c .overlaps .ensures ∙ ap (λ (b : WorldBBox). overlaps b (asks (shown-batch (c .before .before)) .view)) (c .before .transform-bbox .ensures))
 
 -- the batch is in view
 abbrev seen-batch : tie.Else2 → tie.After-geometry-at
 seen-batch c = shown-batch (c .before .before .before)
 
-seen : (c : tie.Else2) → overlaps (placed (seen-batch c)) (query (seen-batch c) .view) ≡ true
+seen : (c : tie.Else2) → overlaps (placed (seen-batch c)) (asks (seen-batch c) .view) ≡ true
 seen c = asked-seen (c .before) ∙ not-false _ (c .if2 .left)
 
 boxed : (c : tie.Else2) → c .before .before .transform-bbox .result ≡ placed (seen-batch c)
 boxed c = c .before .before .transform-bbox .ensures
 
-sized : (c : tie.After-screen-size) → screenSize (placed (seen-batch (c .before))) (query (seen-batch (c .before)) .zoom) ≡ c .screen-size .result
-sized c = sym (c .screen-size .ensures ∙ ap (λ (b : WorldBBox). screenSize b (query (seen-batch (c .before)) .zoom)) (boxed (c .before)))
+sized : (c : tie.After-screen-size) → screenSize (placed (seen-batch (c .before))) (asks (seen-batch (c .before)) .zoom) ≡ c .screen-size .result
+sized c = sym (c .screen-size .ensures ∙ ap (λ (b : WorldBBox). screenSize b (asks (seen-batch (c .before)) .zoom)) (boxed (c .before)))
 
-asked-small : (c : tie.After-is-subpixel) → isSubpixel (screenSize (placed (seen-batch (c .before .before))) (query (seen-batch (c .before .before)) .zoom)) ≡ c .is-subpixel .result
+asked-small : (c : tie.After-is-subpixel) → isSubpixel (screenSize (placed (seen-batch (c .before .before))) (asks (seen-batch (c .before .before)) .zoom)) ≡ c .is-subpixel .result
 asked-small c = ap isSubpixel (sized (c .before)) ∙ sym (c .is-subpixel .ensures)
 
 -- the batch is no speck
 abbrev in-view : tie.Else3 → tie.Else2
 in-view c = c .before .before .before
 
-large : (c : tie.Else3) → isSubpixel (screenSize (placed (seen-batch (in-view c))) (query (seen-batch (in-view c)) .zoom)) ≡ false
+large : (c : tie.Else3) → isSubpixel (screenSize (placed (seen-batch (in-view c))) (asks (seen-batch (in-view c)) .zoom)) ≡ false
 large c = asked-small (c .before) ∙ c .if3 .left
 
-asked-dense : (c : tie.After-is-dense-batch) → let x = seen-batch (in-view (c .before)) in isDenseBatch (screenSize (placed x) (query x .zoom)) (x .geometry-at .result .«element_count») ≡ c .is-dense-batch .result
+asked-dense : (c : tie.After-is-dense-batch) → let x = seen-batch (in-view (c .before)) in isDenseBatch (screenSize (placed x) (asks x .zoom)) (x .geometry-at .result .«element_count») ≡ c .is-dense-batch .result
 asked-dense c =
     ap (λ (z : ScreenSize). isDenseBatch z (seen-batch (in-view (c .before)) .geometry-at .result .«element_count»)) (sized (c .before .before .before))
     ∙ sym (c .is-dense-batch .ensures)
@@ -88,10 +90,10 @@ asked-dense c =
 abbrev not-small : tie.Else4 → tie.Else3
 not-small c = c .before .before
 
-sparse : (c : tie.Else4) → let x = seen-batch (in-view (not-small c)) in isDenseBatch (screenSize (placed x) (query x .zoom)) (x .geometry-at .result .«element_count») ≡ false
+sparse : (c : tie.Else4) → let x = seen-batch (in-view (not-small c)) in isDenseBatch (screenSize (placed x) (asks x .zoom)) (x .geometry-at .result .«element_count») ≡ false
 sparse c = asked-dense (c .before) ∙ c .if4 .left
 
-asked-budget : (c : tie.After-detail-budget-exhausted) → let x = seen-batch (in-view (not-small (c .before))) in detailBudgetExhausted (query x) (start x .args .plan) ≡ c .detail-budget-exhausted .result
+asked-budget : (c : tie.After-detail-budget-exhausted) → let x = seen-batch (in-view (not-small (c .before))) in detailBudgetExhausted (asks x) (start x .args .plan) ≡ c .detail-budget-exhausted .result
 asked-budget c =
     let a = start (seen-batch (in-view (not-small (c .before)))) .args in
     sym (c .detail-budget-exhausted .ensures (now (a .hidden)))
@@ -103,22 +105,24 @@ proxied c y k m = ap (λ (b : WorldBBox). addLoad y noLabel b (entered (seen-bat
 -- ---- the ways out
 
 missing : tie.Need-returns
-missing c = λ k m. sym (geometry-missing noTag onTape _ _ tt _ _ _ (item-read geometries _ _ (sym (c .before .before .look-up .ensures) ∙ c .enum-told .given .1)))
+missing c =
+    let a = c .before .before .before .before .before .before .args in
+    λ k m. sym (geometry-missing (given (a .fixed) (a .sheet) (a .hidden)) _ _ _ (item-read geometries _ _ (sym (c .before .before .look-up .ensures) ∙ c .enum-told .given .1)))
 
 hidden : tie.Need-returns-2
-hidden c = λ k m. sym (geometry-hidden noTag onTape _ _ tt _ _ _ _ (there (c .before .before)) (asked-hidden (c .before) ∙ c .if1 .taken))
+hidden c = λ k m. sym (geometry-hidden (lent-to (c .before .before)) _ _ _ (there (c .before .before)) (asked-hidden (c .before) ∙ c .if1 .taken))
 
 culled : tie.Need-returns-3
 culled c =
     let asked = c .before .before in
     let e1 = asked .before .before in
-    λ k m. c .count-culled-batch .ensures _ k m ∙ sym (geometry-culled noTag onTape _ _ tt _ _ _ _ (there (shown-batch e1)) (shown e1) (asked-seen asked ∙ not-true _ (c .before .if2 .taken)))
+    λ k m. c .count-culled-batch .ensures _ k m ∙ sym (geometry-culled (lent-to (shown-batch e1)) _ _ _ (there (shown-batch e1)) (shown e1) (asked-seen asked ∙ not-true _ (c .before .if2 .taken)))
 
 skipped : tie.Need-returns-4
 skipped c =
     let asked = c .before .before in
     let e2 = asked .before .before in
-    λ k m. c .count-skipped-batch .ensures _ _ k m ∙ sym (geometry-skipped noTag onTape _ _ tt _ _ _ _ (there (seen-batch e2)) (shown (e2 .before .before .before)) (seen e2) (asked-small asked ∙ c .before .if3 .taken))
+    λ k m. c .count-skipped-batch .ensures _ _ k m ∙ sym (geometry-skipped (lent-to (seen-batch e2)) _ _ _ (there (seen-batch e2)) (shown (e2 .before .before .before)) (seen e2) (asked-small asked ∙ c .before .if3 .taken))
 
 dense : tie.Need-returns-5
 dense c =
@@ -128,7 +132,7 @@ dense c =
     let e2 = in-view e3 in
     λ k m.
     added .add-load .ensures k m ∙ proxied e2 _ k m
-    ∙ sym (geometry-dense noTag onTape _ _ tt _ _ _ _ (there (seen-batch e2)) (shown (e2 .before .before .before)) (seen e2) (large e3) (asked-dense asked ∙ added .before .before .if4 .taken))
+    ∙ sym (geometry-dense (lent-to (seen-batch e2)) _ _ _ (there (seen-batch e2)) (shown (e2 .before .before .before)) (seen e2) (large e3) (asked-dense asked ∙ added .before .before .if4 .taken))
 
 exhausted : tie.Need-returns-6
 exhausted c =
@@ -139,7 +143,7 @@ exhausted c =
     let e2 = in-view e3 in
     λ k m.
     added .add-load2 .ensures k m ∙ proxied e2 _ k m
-    ∙ sym (geometry-exhausted noTag onTape _ _ tt _ _ _ _ (there (seen-batch e2)) (shown (e2 .before .before .before)) (seen e2) (large e3) (sparse e4) (asked-budget asked ∙ added .before .before .if5 .taken))
+    ∙ sym (geometry-exhausted (lent-to (seen-batch e2)) _ _ _ (there (seen-batch e2)) (shown (e2 .before .before .before)) (seen e2) (large e3) (sparse e4) (asked-budget asked ∙ added .before .before .if5 .taken))
 
 listed : tie.Need-returns-7
 listed c =
@@ -150,7 +154,7 @@ listed c =
     let e2 = in-view e3 in
     λ k m.
     put .list-batch .ensures k m
-    ∙ sym (geometry-listed noTag onTape _ _ tt _ _ _ _ (there (seen-batch e2)) (shown (e2 .before .before .before)) (seen e2) (large e3) (sparse e4) (asked-budget asked ∙ put .before .before .if5 .left))
+    ∙ sym (geometry-listed (lent-to (seen-batch e2)) _ _ _ (there (seen-batch e2)) (shown (e2 .before .before .before)) (seen e2) (large e3) (sparse e4) (asked-budget asked ∙ put .before .before .if5 .left))
 
 pub push-geometry-spec : {M : Type 1} → statement M
 push-geometry-spec =

@@ -2,8 +2,6 @@
 -- Assumes nothing.
 use mathlib.Core.Path.{_≡_, sym, ap, ap₂, _∙_}
 use mathlib.Core.Bool.{true}
-use mathlib.Core.List.{List}
-use Prim.Native.Nat.{ℕ}
 use denote.Ref.{now}
 use borrow.Author.Tests.{not-true, not-false}
 use Rattle.geometry.specs.declared.placement.DVec2.{DVec2}
@@ -13,8 +11,7 @@ use Rattle.records.specs.declared.PreparedNode.{PreparedNode}
 use Rattle.abstract_sheet.specs.Sheet.{NodeRecord, nodeRecordAt}
 use Rattle.plan_rules.specs.Event.{point}
 use Rattle.plan_rules.specs.World.{detailBudgetExhausted, world, go}
-use Rattle.plan_rules.specs.OnTape.{fixedQuery, say}
-use Rattle.plan_rules.specs.Tape.{noTag, onTape}
+use Rattle.plan_rules.specs.OnTape.{Given, query, say}
 use Rattle.plan_rules.proofs.Paths.Pushes.{point-outside, point-exhausted, point-listed}
 use borrow.Author.Needs.{needs}
 use Rattle.pushes.proofs.items.push_point.Statement.{statement}
@@ -41,19 +38,19 @@ inside : (c : tie.Else1) → let x = c .before .before .before in
     pointInBbox (transformPoint2 (start x .args .transform) (node x .point (start x .args .i))) (start x .args .fixed .options .view) ≡ true
 inside c = asked-inside (c .before) ∙ not-false _ (c .if1 .left)
 
-asked-budget : (c : tie.After-detail-budget-exhausted) (hidden : List ℕ) → let a = start (c .before .before .before .before) .args in
-    detailBudgetExhausted (fixedQuery (a .fixed) hidden) (a .plan) ≡ c .detail-budget-exhausted .result
-asked-budget c hidden = sym (c .detail-budget-exhausted .ensures hidden)
+asked-budget : (c : tie.After-detail-budget-exhausted) → let a = start (c .before .before .before .before) .args in
+    (g : Given (a .fixed)) → detailBudgetExhausted (query g) (a .plan) ≡ c .detail-budget-exhausted .result
+asked-budget c g = sym (c .detail-budget-exhausted .ensures (g .hidden))
 
 -- ---- the ways out
 
 outside : tie.Need-returns
-outside c = λ S hidden k m. sym (point-outside noTag onTape S _ tt _ (node (c .before .before .before)) _ _ (asked-inside (c .before) ∙ not-true _ (c .if1 .taken)))
+outside c = λ g k m. sym (point-outside g _ (node (c .before .before .before)) _ _ (asked-inside (c .before) ∙ not-true _ (c .if1 .taken)))
 
 exhausted : tie.Need-returns-2
 exhausted c =
     let e1 = c .before .before in
-    λ S hidden k m. sym (point-exhausted noTag onTape S _ tt _ (node (e1 .before .before .before)) _ _ (inside e1) (asked-budget (c .before) hidden ∙ c .if2 .taken))
+    λ g k m. sym (point-exhausted g _ (node (e1 .before .before .before)) _ _ (inside e1) (asked-budget (c .before) g ∙ c .if2 .taken))
 
 listed : tie.Need-returns-3
 unfolding nodeRecordAt
@@ -64,11 +61,11 @@ listed c =
     let e1 = asked .before in
     let x = e1 .before .before .before in
     let a = start x .args in
-    λ S hidden k m.
+    λ g k m.
     ap go
     (put .list-point .ensures k m
     ∙ ap₂ (λ (x : PreparedNode) (v : DVec2). say (point (x .layer) (x .«node_type») v) (world (a .plan) (now (a .out)) k m)) (read .node-at .ensures) (placed (e1 .before .before)))
-    ∙ sym (point-listed noTag onTape S _ tt _ (node x) (a .i) _ (inside e1) (asked-budget asked hidden ∙ read .before .if2 .left))
+    ∙ sym (point-listed g _ (node x) _ _ (inside e1) (asked-budget asked g ∙ read .before .if2 .left))
 
 pub push-point-spec : {M : Type 1} → statement M
 push-point-spec =

@@ -8,9 +8,9 @@ use lib.ListN.{length}
 use borrow.Author.Tests.{not-true, not-false}
 use mathlib.Core.Bool.{Bool}
 use Rattle.records.specs.declared.PreparedNode.{PreparedNode}
-use Rattle.abstract_sheet.specs.Sheet.{Sheet, nodeRecordAt}
+use Rattle.abstract_sheet.specs.Sheet.{nodeRecordAt}
 use Rattle.plan_rules.specs.World.{world, flow, each}
-use Rattle.plan_rules.specs.OnTape.{pushPoint}
+use Rattle.plan_rules.specs.OnTape.{Given, pushPoint, pushPoints}
 use Rattle.plan_rules.proofs.Paths.Loops.{each-go, each-halt, each-done}
 use Rattle.pushes.proofs.Start.{each-from}
 use borrow.Author.Needs.{needs}
@@ -21,29 +21,29 @@ abbrev Inv-loop : tie.InvT-loop
 Inv-loop sheet fixed out₀ at transform count next₀ i₀ out next i =
     (i ≤ count)
     × (length out ≡ length out₀)
-    × ((S : Sheet) (hidden k m : List ℕ) → each (pushPoint S fixed hidden transform (nodeRecordAt sheet at)) (count - i) i (world next out k m) ≡ each (pushPoint S fixed hidden transform (nodeRecordAt sheet at)) (nodeRecordAt sheet at .count) 0 (world next₀ out₀ k m))
+    × ((g : Given fixed) (k m : List ℕ) → each (pushPoint g transform (nodeRecordAt sheet at)) (count - i) i (world next out k m) ≡ pushPoints g transform (nodeRecordAt sheet at) (world next₀ out₀ k m))
 
 abbrev μ-loop : tie.MeasureT-loop
 μ-loop sheet fixed out₀ at transform count next₀ i₀ out next i = count - i
 
 loop-holds : tie.Need-loop-holds Inv-loop μ-loop
 unfolding nodeRecordAt
-loop-holds c = (omega arith, refl, λ S hidden k m. each-from _ _ _ _ (ap (λ (x : PreparedNode). x .points) (c .node-at .ensures)))
+loop-holds c = (omega arith, refl, λ g k m. each-from _ _ _ _ (ap (λ (x : PreparedNode). x .points) (c .node-at .ensures)))
 
 halts : tie.Need-returns Inv-loop μ-loop
 halts c =
     let at-push-point = c .before .before .before .before .before in
     let at-loop-test = at-push-point .before .before in
     let at-loop = at-loop-test .before in
-    λ S hidden k m. sym
-    (sym (at-loop .loop .inv .2 S hidden k m)
+    λ g k m. sym
+    (sym (at-loop .loop .inv .2 g k m)
     ∙ each-halt _ _ (at-loop .loop .i) _ _ (at-loop-test .loop-test .taken)
-    (sym (at-push-point .push-point .ensures S hidden k m) ∙ (ap (λ (b : Bool). flow b (world (at-push-point .push-point .result .plan) (at-push-point .push-point .last .1 .1 .0) k m)) (not-true (at-push-point .push-point .result .whole) (c .if1 .taken)))))
+    (sym (at-push-point .push-point .ensures g k m) ∙ (ap (λ (b : Bool). flow b (world (at-push-point .push-point .result .plan) (at-push-point .push-point .last .1 .1 .0) k m)) (not-true (at-push-point .push-point .result .whole) (c .if1 .taken)))))
 
 done : tie.Need-returns-2 Inv-loop μ-loop
 done c =
     let at-loop = c .before in
-    λ S hidden k m. sym (sym (at-loop .loop .inv .2 S hidden k m) ∙ each-done _ _ (at-loop .loop .i) _ (c .loop-test .left))
+    λ g k m. sym (sym (at-loop .loop .inv .2 g k m) ∙ each-done _ _ (at-loop .loop .i) _ (c .loop-test .left))
 
 next-fits : tie.Need-add-i Inv-loop μ-loop
 next-fits c =
@@ -58,10 +58,10 @@ loop-again c =
     let at-loop = at-loop-test .before in (
       omega arith,
       search (needs, at-loop .loop .inv .1, at-push-point .push-point .kept .1 .1 .0),
-      λ S hidden k m.
+      λ g k m.
           sym (each-go _ _ (at-loop .loop .i) _ _ (at-loop-test .loop-test .taken)
-          (sym (at-push-point .push-point .ensures S hidden k m) ∙ (ap (λ (b : Bool). flow b (world (at-push-point .push-point .result .plan) (at-push-point .push-point .last .1 .1 .0) k m)) (not-false (at-push-point .push-point .result .whole) (c .if1 .left)))))
-          ∙ at-loop .loop .inv .2 S hidden k m,
+          (sym (at-push-point .push-point .ensures g k m) ∙ (ap (λ (b : Bool). flow b (world (at-push-point .push-point .result .plan) (at-push-point .push-point .last .1 .1 .0) k m)) (not-false (at-push-point .push-point .result .whole) (c .if1 .left)))))
+          ∙ at-loop .loop .inv .2 g k m,
     )
 
 pub push-points-spec : {M : Type 1} → statement M

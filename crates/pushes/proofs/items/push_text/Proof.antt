@@ -11,8 +11,7 @@ use Rattle.abstract_sheet.specs.Sheet.{sheetOf, texts}
 use Rattle.abstract_sheet.proofs.Lookup.{item-read}
 use Rattle.plan_rules.specs.Event.{text}
 use Rattle.plan_rules.specs.World.{hides, world}
-use Rattle.plan_rules.specs.OnTape.{fixedQuery, say}
-use Rattle.plan_rules.specs.Tape.{noTag, onTape}
+use Rattle.plan_rules.specs.OnTape.{Given, given, query, say}
 use Rattle.plan_rules.proofs.Paths.Pushes.{text-missing, text-hidden, text-outside, text-listed}
 use borrow.Author.Needs.{needs}
 use Rattle.pushes.proofs.items.push_text.Statement.{statement}
@@ -23,13 +22,15 @@ use Rattle.pushes.proofs.items.push_text.Tie as tie
 abbrev start : tie.After-text-at → tie.Start
 start c = c .before .before .before .before .before .before .before .before
 
+abbrev lent-to : (c : tie.After-text-at) → Given (start c .args .fixed)
+lent-to c = given (start c .args .fixed) (start c .args .sheet) (start c .args .hidden)
+
 there : (c : tie.After-text-at) → sheetOf (now (start c .args .sheet)) .text (start c .args .number) ≡ some (c .text-at .result)
 there c =
     let at-at = c .before .before in
     item-read texts _ _ (sym (at-at .before .before .look-up .ensures) ∙ at-at .at .given .1) ∙ ap some (sym (c .text-at .ensures))
 
-asked-hidden : (c : tie.After-is-hidden) → let a = start (c .before) .args in
-    hides (fixedQuery (a .fixed) (now (a .hidden))) (c .before .text-at .result .layer) (c .before .text-at .result .«data_type») ≡ c .is-hidden .result
+asked-hidden : (c : tie.After-is-hidden) → hides (query (lent-to (c .before))) (c .before .text-at .result .layer) (c .before .text-at .result .«data_type») ≡ c .is-hidden .result
 asked-hidden c = sym (c .is-hidden .ensures (start (c .before) .args .fixed))
 
 -- the text is shown
@@ -46,15 +47,17 @@ asked-inside c = sym (c .point-in-bbox .ensures ∙ ap (λ (v : DVec2). pointInB
 -- ---- the ways out
 
 missing : tie.Need-returns
-missing c = λ k m. sym (text-missing noTag onTape _ _ tt _ _ _ (item-read texts _ _ (sym (c .before .before .look-up .ensures) ∙ c .enum-told .given .1)))
+missing c =
+    let a = c .before .before .before .before .before .before .args in
+    λ k m. sym (text-missing (given (a .fixed) (a .sheet) (a .hidden)) _ _ _ (item-read texts _ _ (sym (c .before .before .look-up .ensures) ∙ c .enum-told .given .1)))
 
 hidden : tie.Need-returns-2
-hidden c = λ k m. sym (text-hidden noTag onTape _ _ tt _ _ _ _ (there (c .before .before)) (asked-hidden (c .before) ∙ c .if1 .taken))
+hidden c = λ k m. sym (text-hidden (lent-to (c .before .before)) _ _ _ (there (c .before .before)) (asked-hidden (c .before) ∙ c .if1 .taken))
 
 outside : tie.Need-returns-3
 outside c =
     let e1 = c .before .before .before in
-    λ k m. sym (text-outside noTag onTape _ _ tt _ _ _ _ (there (text-read e1)) (asked-hidden (e1 .before) ∙ e1 .if1 .left) (asked-inside (c .before) ∙ not-true _ (c .if2 .taken)))
+    λ k m. sym (text-outside (lent-to (text-read e1)) _ _ _ (there (text-read e1)) (asked-hidden (e1 .before) ∙ e1 .if1 .left) (asked-inside (c .before) ∙ not-true _ (c .if2 .taken)))
 
 listed : tie.Need-returns-4
 listed c =
@@ -65,7 +68,7 @@ listed c =
     λ k m.
     put .list-text .ensures k m
     ∙ ap (λ (v : DVec2). say (text (a .number) v) (world (a .plan) (now (a .out)) k m)) (placed (e2 .before .before))
-    ∙ sym (text-listed noTag onTape _ _ tt _ _ _ _ (there (text-read e1)) (asked-hidden (e1 .before) ∙ e1 .if1 .left) (asked-inside (e2 .before) ∙ not-false _ (e2 .if2 .left)))
+    ∙ sym (text-listed (lent-to (text-read e1)) _ _ _ (there (text-read e1)) (asked-hidden (e1 .before) ∙ e1 .if1 .left) (asked-inside (e2 .before) ∙ not-false _ (e2 .if2 .left)))
 
 pub push-text-spec : {M : Type 1} → statement M
 push-text-spec =

@@ -5,8 +5,7 @@ use denote.Ref.{now}
 use Rattle.geometry.specs.declared.bbox.WorldBBox.{WorldBBox}
 use Rattle.geometry.specs.declared.bbox.Bounds.{Bounds}
 use Rattle.plan_rules.specs.World.{world}
-use Rattle.plan_rules.specs.Push.{addLoad, addLoadIfBoxed}
-use Rattle.plan_rules.specs.Tape.{noTag, onTape}
+use Rattle.plan_rules.specs.OnTape.{addLoad, addLoadIfBoxed}
 use borrow.Author.Needs.{needs}
 use Rattle.pushes.proofs.load.add_load_if_boxed.Statement.{statement}
 use Rattle.pushes.proofs.load.add_load_if_boxed.Tie as tie
@@ -15,7 +14,7 @@ absent : tie.Need-returns
 absent c =
     let start = c .before .before .before in
     let a = start .args in
-    λ k m. sym (ap (λ (x : Bounds). addLoadIfBoxed noTag onTape tt (a .why) (a .label) x (world (a .plan) (now (a .out)) k m)) (c .enum-told .given .1))
+    λ k m. sym (ap (λ (x : Bounds). addLoadIfBoxed (a .why) (a .label) x (world (a .plan) (now (a .out)) k m)) (c .enum-told .given .1))
 
 boxed : tie.Need-returns-2
 boxed c =
@@ -26,8 +25,8 @@ boxed c =
     let a = start .args in
     λ k m.
     at-add-load .add-load .ensures k m
-    ∙ ap (λ (b : WorldBBox). addLoad noTag onTape tt (a .why) (a .label) b (world (a .plan) (now (a .out)) k m)) (at-new .new .ensures)
-    ∙ sym (ap (λ (x : Bounds). addLoadIfBoxed noTag onTape tt (a .why) (a .label) x (world (a .plan) (now (a .out)) k m)) (at-bounds .bounds .given .1))
+    ∙ ap (λ (b : WorldBBox). addLoad (a .why) (a .label) b (world (a .plan) (now (a .out)) k m)) (at-new .new .ensures)
+    ∙ sym (ap (λ (x : Bounds). addLoadIfBoxed (a .why) (a .label) x (world (a .plan) (now (a .out)) k m)) (at-bounds .bounds .given .1))
 
 pub add-load-if-boxed-spec : {M : Type 1} → statement M
 add-load-if-boxed-spec =

@@ -32,9 +32,9 @@ inside c = sym (c .before .is-outside .ensures) ∙ c .if1 .left
 outside : tie.Need-returns
 outside c =
     let asked = c .before .before in
-    λ S hidden visit d k e.
+    λ g on d k e.
     is-over _ _ _ _ _ k _ (c .over .ensures)
-    ∙ cell-outside S _ _ visit _ _ d _ _ (placed (asked .before) _ e) (sym (asked .is-outside .ensures) ∙ c .before .if1 .taken)
+    ∙ cell-outside g on _ _ d _ _ (placed (asked .before) _ e) (sym (asked .is-outside .ensures) ∙ c .before .if1 .taken)
 
 full : tie.Need-returns-2
 full c =
@@ -42,9 +42,9 @@ full c =
     let asked = added .before .before .before in
     let else1 = asked .before in
     let b = else1 .before .before in
-    λ S hidden visit d k e.
+    λ g on d k e.
     is-over _ _ _ _ _ k _ (c .over2 .ensures)
-    ∙ cell-detail-full S _ _ visit _ _ d _ _ (placed b _ e) (inside else1) (sym (asked .detail-cells-full .ensures) ∙ added .before .before .if2 .taken) _ (added .add-load-if-boxed .ensures k _)
+    ∙ cell-detail-full g on _ _ d _ _ (placed b _ e) (inside else1) (sym (asked .detail-cells-full .ensures) ∙ added .before .before .if2 .taken) _ (added .add-load-if-boxed .ensures k _)
 
 exhausted : tie.Need-returns-3
 exhausted c =
@@ -53,10 +53,10 @@ exhausted c =
     let else2 = asked .before in
     let else1 = else2 .before .before in
     let b = else1 .before .before in
-    λ S hidden visit d k e.
+    λ g on d k e.
     is-over _ _ _ _ _ k _ (c .over3 .ensures)
-    ∙ cell-exhausted S _ _ visit _ _ d _ _ (placed b _ e) (inside else1) (sym (else2 .before .detail-cells-full .ensures) ∙ else2 .if2 .left)
-    (sym (asked .detail-budget-exhausted .ensures hidden) ∙ added .before .before .if3 .taken) _ (added .add-load-if-boxed2 .ensures k _)
+    ∙ cell-exhausted g on _ _ d _ _ (placed b _ e) (inside else1) (sym (else2 .before .detail-cells-full .ensures) ∙ else2 .if2 .left)
+    (sym (asked .detail-budget-exhausted .ensures (g .hidden)) ∙ added .before .before .if3 .taken) _ (added .add-load-if-boxed2 .ensures k _)
 
 met-again : tie.Need-returns-4
 met-again c =
@@ -66,10 +66,10 @@ met-again c =
     let else2 = else3 .before .before in
     let else1 = else2 .before .before in
     let b = else1 .before .before in
-    λ S hidden visit d k e.
+    λ g on d k e.
     is-over _ _ _ _ _ k _ (c .over4 .ensures)
-    ∙ cell-open S _ _ visit _ _ d _ _ (placed b _ e) (inside else1) (sym (else2 .before .detail-cells-full .ensures) ∙ else2 .if2 .left)
-    (sym (else3 .before .detail-budget-exhausted .ensures hidden) ∙ else3 .if3 .left)
+    ∙ cell-open g on _ _ d _ _ (placed b _ e) (inside else1) (sym (else2 .before .detail-cells-full .ensures) ∙ else2 .if2 .left)
+    (sym (else3 .before .detail-budget-exhausted .ensures (g .hidden)) ∙ else3 .if3 .left)
     (sym (asked .stack-contains .ensures) ∙ added .before .before .if4 .taken) _ (added .add-load-if-boxed3 .ensures k _)
 
 entered : tie.Need-returns-5
@@ -82,10 +82,10 @@ entered c =
     let else1 = else2 .before .before in
     let b = else1 .before .before in
     let a = start b .args in
-    λ S hidden visit d k e.
-    cell-entered S _ _ visit _ _ d _ _ (placed b _ e) (inside else1)
+    λ g on d k e.
+    cell-entered g on _ _ d _ _ (placed b _ e) (inside else1)
     (sym (else2 .before .detail-cells-full .ensures) ∙ else2 .if2 .left)
-    (sym (else3 .before .detail-budget-exhausted .ensures hidden) ∙ else3 .if3 .left)
+    (sym (else3 .before .detail-budget-exhausted .ensures (g .hidden)) ∙ else3 .if3 .left)
     (sym (asked .stack-contains .ensures) ∙ else4 .if4 .left) _
     (c .count-detail-cell .ensures _ k _ ∙ ap (λ (m : List ℕ). say detailCell (world (a .plan) (now (a .out)) k m)) (inserted .stack-insert .ensures))
 

@@ -31,8 +31,8 @@ exhausted c =
     let at-if1 = at-add-load .before .before in
     let at-budget = at-if1 .before in
     let at-label = at-budget .before in
-    λ S hidden visit k m.
-    try-exhausted S _ _ visit _ _ _ _ _ _ _ _ _ _ (at-label .label .ensures) _ (at-budget .detail-budget-exhausted .ensures hidden)
+    λ g on k m.
+    try-exhausted g on _ _ _ _ _ _ _ _ _ _ (at-label .label .ensures) _ (at-budget .detail-budget-exhausted .ensures (g .hidden))
     (at-if1 .if1 .taken) _ (at-add-load .add-load .ensures k m)
 
 culled : tie.Need-returns-2
@@ -45,8 +45,8 @@ culled c =
     let at-transform-bbox = at-label .before in
     let at-mul = at-transform-bbox .before in
     let at-grid-member-transform = at-mul .before in
-    λ S hidden visit k m.
-    try-culled S _ _ visit _ _ _ _ _ _ _ _ _ _ (at-label .label .ensures) _ (at-budget .detail-budget-exhausted .ensures hidden)
+    λ g on k m.
+    try-culled g on _ _ _ _ _ _ _ _ _ _ (at-label .label .ensures) _ (at-budget .detail-budget-exhausted .ensures (g .hidden))
     (at-if1 .if1 .left) _ (at-grid-member-transform .grid-member-transform .ensures) _ (at-mul .mul .ensures) _ (at-transform-bbox .transform-bbox .ensures) _ (at-overlaps .overlaps .ensures)
     (at-if2 .if2 .taken) _ (c .count-culled-reference .ensures _ k m)
 
@@ -64,11 +64,11 @@ skipped c =
     let at-transform-bbox = at-label .before in
     let at-mul = at-transform-bbox .before in
     let at-grid-member-transform = at-mul .before in
-    λ S hidden visit k m.
-    try-skipped S _ _ visit _ _ _ _ _ _ _ _ _ _ (at-label .label .ensures) _ (at-budget .detail-budget-exhausted .ensures hidden)
+    λ g on k m.
+    try-skipped g on _ _ _ _ _ _ _ _ _ _ (at-label .label .ensures) _ (at-budget .detail-budget-exhausted .ensures (g .hidden))
     (at-if1 .if1 .left) _ (at-grid-member-transform .grid-member-transform .ensures) _ (at-mul .mul .ensures) _ (at-transform-bbox .transform-bbox .ensures) _ (at-overlaps .overlaps .ensures)
     (at-if2 .if2 .left) _ (at-degenerate .source-is-degenerate .ensures) _ (at-size .reference-screen-size .ensures) _ (at-subpixel .is-subpixel .ensures)
-    (at-if3 .if3 .taken) _ (λ g b. c .count-skipped-member .ensures g b _ k m)
+    (at-if3 .if3 .taken) _ (λ degenerate b. c .count-skipped-member .ensures degenerate b _ k m)
 
 collapsed : tie.Need-returns-4
 collapsed c =
@@ -89,8 +89,8 @@ collapsed c =
     let at-transform-bbox = at-label .before in
     let at-mul = at-transform-bbox .before in
     let at-grid-member-transform = at-mul .before in
-    λ S hidden visit k m.
-    try-collapsed S _ _ visit _ _ _ _ _ _ _ _ _ _ (at-label .label .ensures) _ (at-budget .detail-budget-exhausted .ensures hidden)
+    λ g on k m.
+    try-collapsed g on _ _ _ _ _ _ _ _ _ _ (at-label .label .ensures) _ (at-budget .detail-budget-exhausted .ensures (g .hidden))
     (at-if1 .if1 .left) _ (at-grid-member-transform .grid-member-transform .ensures) _ (at-mul .mul .ensures) _ (at-transform-bbox .transform-bbox .ensures) _ (at-overlaps .overlaps .ensures)
     (at-if2 .if2 .left) _ (at-degenerate .source-is-degenerate .ensures) _ (at-size .reference-screen-size .ensures) _ (at-subpixel .is-subpixel .ensures)
     (at-if3 .if3 .left) _ (at-test .collapse-test .ensures) _ (at-collapses .collapses .ensures)
@@ -112,8 +112,8 @@ opens c =
     let at-transform-bbox = at-label .before in
     let at-mul = at-transform-bbox .before in
     let at-grid-member-transform = at-mul .before in
-    λ S hidden visit k m.
-    try-opens S _ _ visit _ _ _ _ _ _ _ _ _ _ (at-label .label .ensures) _ (at-budget .detail-budget-exhausted .ensures hidden)
+    λ g on k m.
+    try-opens g on _ _ _ _ _ _ _ _ _ _ (at-label .label .ensures) _ (at-budget .detail-budget-exhausted .ensures (g .hidden))
     (at-if1 .if1 .left) _ (at-grid-member-transform .grid-member-transform .ensures) _ (at-mul .mul .ensures) _ (at-transform-bbox .transform-bbox .ensures) _ (at-overlaps .overlaps .ensures)
     (at-if2 .if2 .left) _ (at-degenerate .source-is-degenerate .ensures) _ (at-size .reference-screen-size .ensures) _ (at-subpixel .is-subpixel .ensures)
     (at-if3 .if3 .left) _ (at-test .collapse-test .ensures) _ (at-collapses .collapses .ensures)

@@ -17,17 +17,17 @@ use Rattle.visit_steps.proofs.reference.open_reference.Tie as tie
 
 unboxed : tie.Need-returns
 unboxed c =
-    λ S hidden visit depth k m.
-    is-over _ _ _ _ _ k m (c .over .ensures) ∙ reference-unboxed S _ _ visit depth _ _ _ (c .before .enum-told .given .1)
+    λ g on depth k m.
+    is-over _ _ _ _ _ k m (c .over .ensures) ∙ reference-unboxed g on depth _ _ _ (c .before .enum-told .given .1)
 
 empty : tie.Need-returns-2
 empty c =
     let at-bbox = c .before .before .before in
     let at-new = at-bbox .before in
     let at-bounds = at-new .before .before in
-    λ S hidden visit depth k m.
+    λ g on depth k m.
     is-over _ _ _ _ _ k m (c .over2 .ensures)
-    ∙ reference-empty S _ _ visit depth _ _ _ _ _ _ _ (at-bounds .bounds .given .1) _ (at-new .new .ensures)
+    ∙ reference-empty g on depth _ _ _ _ _ _ _ (at-bounds .bounds .given .1) _ (at-new .new .ensures)
     (sym (at-bbox .reference-bbox .ensures) ∙ c .before .enum-told2 .given .1)
 
 culled : tie.Need-returns-3
@@ -42,9 +42,9 @@ culled c =
     let a = at-bounds .before .before .before .args in
     let members = sym (at-bbox .reference-bbox .ensures) ∙ at-members .local-bbox .given .1 in
     let placed = at-transform .transform-bbox .ensures ∙ ap (transformBbox (a .transform)) (at-transform .before .new2 .ensures) in
-    λ S hidden visit depth k m.
+    λ g on depth k m.
     is-over _ _ _ _ _ k m (c .over3 .ensures)
-    ∙ reference-culled S _ _ visit depth _ _ _ _ _ _ _ (at-bounds .bounds .given .1) _ (at-new .new .ensures) _ _ _ _ members _ placed
+    ∙ reference-culled g on depth _ _ _ _ _ _ _ (at-bounds .bounds .given .1) _ (at-new .new .ensures) _ _ _ _ members _ placed
     (sym (at-overlaps .overlaps .ensures) ∙ not-true _ (at-culled .before .if1 .taken)) _ (at-culled .count-culled-reference .ensures _ k m)
 
 -- ---- past the view's test
@@ -69,9 +69,9 @@ full c =
     let a = at-bounds .before .before .before .args in
     let members = sym (at-bbox .reference-bbox .ensures) ∙ at-members .local-bbox .given .1 in
     let placed = at-transform .transform-bbox .ensures ∙ ap (transformBbox (a .transform)) (at-transform .before .new2 .ensures) in
-    λ S hidden visit depth k m.
+    λ g on depth k m.
     is-over _ _ _ _ _ k m (c .over4 .ensures)
-    ∙ reference-detail-full S _ _ visit depth _ _ _ _ _ _ _ (at-bounds .bounds .given .1) _ (at-new .new .ensures) _ _ _ _ members _ placed (seen else1)
+    ∙ reference-detail-full g on depth _ _ _ _ _ _ _ (at-bounds .bounds .given .1) _ (at-new .new .ensures) _ _ _ _ members _ placed (seen else1)
     (sym (asked .detail-cells-full .ensures) ∙ added .before .before .if2 .taken) _
     (added .add-load .ensures k m ∙ ap (λ (l : ℕ). addLoad reason.CellLimit l (at-transform .transform-bbox .result) (world (a .plan) (now (a .out)) k m)) (labelled .label .ensures))
 
@@ -90,10 +90,10 @@ exhausted c =
     let a = at-bounds .before .before .before .args in
     let members = sym (at-bbox .reference-bbox .ensures) ∙ at-members .local-bbox .given .1 in
     let placed = at-transform .transform-bbox .ensures ∙ ap (transformBbox (a .transform)) (at-transform .before .new2 .ensures) in
-    λ S hidden visit depth k m.
+    λ g on depth k m.
     is-over _ _ _ _ _ k m (c .over5 .ensures)
-    ∙ reference-exhausted S _ _ visit depth _ _ _ _ _ _ _ (at-bounds .bounds .given .1) _ (at-new .new .ensures) _ _ _ _ members _ placed (seen else1)
-    (sym (else2 .before .detail-cells-full .ensures) ∙ else2 .if2 .left) (sym (asked .detail-budget-exhausted .ensures hidden) ∙ added .before .before .if3 .taken) _
+    ∙ reference-exhausted g on depth _ _ _ _ _ _ _ (at-bounds .bounds .given .1) _ (at-new .new .ensures) _ _ _ _ members _ placed (seen else1)
+    (sym (else2 .before .detail-cells-full .ensures) ∙ else2 .if2 .left) (sym (asked .detail-budget-exhausted .ensures (g .hidden)) ∙ added .before .before .if3 .taken) _
     (added .add-load2 .ensures k m ∙ ap (λ (l : ℕ). addLoad reason.OtherLimit l (at-transform .transform-bbox .result) (world (a .plan) (now (a .out)) k m)) (labelled .label .ensures))
 
 opened : tie.Need-returns-6
@@ -110,10 +110,10 @@ opened c =
     let a = at-bounds .before .before .before .args in
     let members = sym (at-bbox .reference-bbox .ensures) ∙ at-members .local-bbox .given .1 in
     let placed = at-transform .transform-bbox .ensures ∙ ap (transformBbox (a .transform)) (at-transform .before .new2 .ensures) in
-    λ S hidden visit depth k m.
-    reference-opened S _ _ visit depth _ _ _ _ _ _ _ (at-bounds .bounds .given .1) _ (at-new .new .ensures) _ _ _ _ members _ placed (seen else1)
+    λ g on depth k m.
+    reference-opened g on depth _ _ _ _ _ _ _ (at-bounds .bounds .given .1) _ (at-new .new .ensures) _ _ _ _ members _ placed (seen else1)
     (sym (else2 .before .detail-cells-full .ensures) ∙ else2 .if2 .left)
-    (sym (asked .detail-budget-exhausted .ensures hidden) ∙ c .if3 .left)
+    (sym (asked .detail-budget-exhausted .ensures (g .hidden)) ∙ c .if3 .left)
 
 pub open-reference-spec : {M : Type 1} → statement M
 open-reference-spec =

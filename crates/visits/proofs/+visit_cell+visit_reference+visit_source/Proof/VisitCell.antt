@@ -5,14 +5,12 @@ use Prim.Native.Nat.{ℕ, _-_, _≤_}
 use native.Mathlib.Omega.{arith}
 use borrow.Author.Needs.{needs}
 use lib.ListN.{length, set}
-use Rattle.abstract_sheet.specs.Sheet.{sheetOf, cellRecordWith}
+use Rattle.abstract_sheet.specs.Sheet.{cellRecordWith}
 use Rattle.visit_items.specs.declared.OpenCell.{OpenCell}
 use Rattle.plan_rules.specs.declared.ScenePlan.{ScenePlan}
 use Rattle.plan_rules.specs.World.{world, each, ending}
 use Rattle.plan_rules.specs.Scratch.{openPlace}
-use Rattle.plan_rules.specs.Visit as rules
-use Rattle.plan_rules.specs.Tape.{noTag, onTape}
-use Rattle.plan_rules.specs.OnTape.{fixedQuery, VisitReference, visitCell}
+use Rattle.plan_rules.specs.OnTape.{Given, given, VisitReference, onReference, visitCell}
 use Rattle.plan_rules.proofs.Paths.Loops.{each-start, each-go, each-halt, each-done}
 use Rattle.visits.proofs.Cells
 use Rattle.visits.proofs.visit_cell.Reads as visit-cell
@@ -48,6 +46,10 @@ module _ (t : ℕ) where
   abbrev Head : Type 0
   Head = lts.At-loop (visit-cell-claims t) (visit-cell-at t) visit-cell.Post Inv-loop μ-loop
 
+  -- what the plan is given
+  abbrev lent-to : (s : Start) → Given (s .args .fixed)
+  lent-to s = given (s .args .fixed) (s .args .sheet) (s .args .hidden)
+
   abbrev start : Looked → Start
   start c = c .before .before .before .before .before .before
 
@@ -64,8 +66,8 @@ module _ (t : ℕ) where
   entry c = start (looked (entered (listed c)))
 
   -- how the cell's references are visited
-  abbrev visit : (c : Start) → VisitReference (sheetOf (c .args .sheet .now)) (c .args .fixed) (c .args .hidden .now)
-  visit c = rules.visitReference noTag onTape (sheetOf (c .args .sheet .now)) (c .args .fixed .counts .cells) (fixedQuery (c .args .fixed) (c .args .hidden .now)) (c .args .depth)
+  abbrev visit : (c : Start) → VisitReference (lent-to c)
+  visit c = onReference (lent-to c) (c .args .depth)
 
   -- the cell that is open in the loop
   abbrev open-cell : Head → OpenCell
@@ -90,7 +92,7 @@ module _ (t : ℕ) where
       let a = s .args in
       Cells.cell-not-entered (a .sheet .now) (a .fixed) (a .hidden .now) (a .depth) (a .cell) (a .transform) _
       (at-at .at .given .0 .0) (sym (looked e .look-up .ensures) ∙ at-at .at .given .1) (e .before .before .before .cell-at .result) (e .before .before .before .cell-at .ensures) (e .enter-cell .result) _
-      (e .enter-cell .ensures (sheetOf (a .sheet .now)) (a .hidden .now) (visit s) (cellRecordWith (a .sheet .now) (at-at .at .given .0 .0) (e .before .before .before .cell-at .result)) (a .counts .now) refl)
+      (e .enter-cell .ensures (lent-to s) (visit s) (cellRecordWith (a .sheet .now) (at-at .at .given .0 .0) (e .before .before .before .cell-at .result)) (a .counts .now) refl)
       (c .if1 .taken)
 
   pub loop-starts : lts.Need-loop-holds (visit-cell-claims t) (visit-cell-at t) visit-cell.Post Inv-loop μ-loop
@@ -130,7 +132,7 @@ module _ (t : ℕ) where
       → let a = entry c .args in
       ending (each (Cells.turn (a .sheet .now) (a .fixed) (a .hidden .now) (a .depth) (open-cell c)) (listed c .push-items .result .references - c .loop .i) (c .loop .i) (world (c .loop .next) (c .loop .out) (c .loop .counts) (c .loop .marks))) ≡ world plan o k m
       → m′ ≡ set m (openPlace (a .fixed .counts .cells) (a .cell)) 0
-      → world plan o k m′ ≡ visitCell (sheetOf (a .sheet .now)) (a .fixed) (a .hidden .now) (a .depth) (a .cell) (a .transform) (world (a .plan) (a .out .now) (a .counts .now) (a .marks .now))
+      → world plan o k m′ ≡ visitCell (lent-to (entry c)) (a .depth) (a .cell) (a .transform) (world (a .plan) (a .out .now) (a .counts .now) (a .marks .now))
   closed c plan o k m m′ ended removed =
       let l = listed c in
       let e = entered l in
@@ -139,7 +141,7 @@ module _ (t : ℕ) where
       let a = s .args in
       Cells.cell-visited (a .sheet .now) (a .fixed) (a .hidden .now) (a .depth) (a .cell) (a .transform) _
       (at-at .at .given .0 .0) (sym (looked e .look-up .ensures) ∙ at-at .at .given .1) (e .before .before .before .cell-at .result) (e .before .before .before .cell-at .ensures) (e .enter-cell .result) _
-      (e .enter-cell .ensures (sheetOf (a .sheet .now)) (a .hidden .now) (visit s) (cellRecordWith (a .sheet .now) (at-at .at .given .0 .0) (e .before .before .before .cell-at .result)) (a .counts .now) refl)
+      (e .enter-cell .ensures (lent-to s) (visit s) (cellRecordWith (a .sheet .now) (at-at .at .given .0 .0) (e .before .before .before .cell-at .result)) (a .counts .now) refl)
       (l .before .before .if1 .left) (l .push-items .result .references) _ plan o k m m′
       (l .push-items .ensures (visit s) (a .counts .now) (e .enter-cell .last .1 .1 .0)) (ap ending (c .loop .inv .4) ∙ ended) removed
 

@@ -8,12 +8,9 @@ use borrow.Author.Needs.{needs}
 use borrow.Author.Tests.{not-true, not-false}
 use lib.ListN.{length}
 use Rattle.geometry.specs.Screen.{collapses}
-use Rattle.abstract_sheet.specs.Sheet.{sheetOf}
-use Rattle.plan_rules.specs.World.{World, world, Flow, go, halt, ending, each}
-use Rattle.plan_rules.specs.DrawUnits.{referenceDrawUnits}
-use Rattle.plan_rules.specs.Visit as rules
-use Rattle.plan_rules.specs.Tape.{noTag, onTape}
-use Rattle.plan_rules.specs.OnTape.{fixedQuery, VisitSource, visitReference, visitSource}
+use Rattle.plan_rules.specs.World.{world, Flow, go, halt, ending, each}
+use Rattle.plan_rules.specs.DrawUnits.{Units, referenceDrawUnits}
+use Rattle.plan_rules.specs.OnTape.{Given, givenBytes, given, Output, visitCountedReference, onSource, onSourceBelow, visitReference, visitSource}
 use Rattle.visit_steps.specs.Left.{leftOfReference, leftOfMember}
 use Rattle.plan_rules.proofs.Paths.Loops.{each-start, each-go, each-halt, each-done}
 use Rattle.visits.proofs.References
@@ -28,7 +25,7 @@ Inv-loop sheet fixed hidden out₀ counts₀ marks₀ number transform depth at 
     × (length out ≡ length out₀)
     × (length counts ≡ length counts₀)
     × (length marks ≡ length marks₀)
-    × (each (References.turn sheet fixed hidden depth reference transform source-bbox world-bbox share) count 0 (world next₀ out₀ counts₀ marks₀) ≡ each (References.turn sheet fixed hidden depth reference transform source-bbox world-bbox share) (count - i) i (world next out counts marks))
+    × (each (References.turn (givenBytes fixed sheet hidden) depth reference transform source-bbox world-bbox share) count 0 (world next₀ out₀ counts₀ marks₀) ≡ each (References.turn (givenBytes fixed sheet hidden) depth reference transform source-bbox world-bbox share) (count - i) i (world next out counts marks))
 
 abbrev pub μ-loop : lts.MeasureT-loop
 μ-loop sheet fixed hidden out₀ counts₀ marks₀ number transform depth at reference source next₀ source-bbox world-bbox count draw-units label share i₀ out counts marks next i = count - i
@@ -59,6 +56,10 @@ module _ (t : ℕ) where
 
   abbrev Head : Type 0
   Head = lts.At-loop (visit-reference-claims t) (visit-reference-at t) visit-reference.Post Inv-loop μ-loop
+
+  -- what the plan is given
+  abbrev lent-to : (s : Start) → Given (s .args .fixed)
+  lent-to s = given (s .args .fixed) (s .args .sheet) (s .args .hidden)
 
   abbrev start : Looked → Start
   start c = c .before .before .before .before .before .before
@@ -94,34 +95,34 @@ module _ (t : ℕ) where
 
   -- ---- after `open_reference`
 
-  abbrev reached : Opened → World (List ℕ)
+  abbrev reached : Opened → Output
   reached c =
       let a = entry c .args in
       world (c .open-reference .result .plan) (c .open-reference .last .1 .0) (a .counts .now) (a .marks .now)
 
-  -- how a member's source is visited
-  abbrev deeper : (c : Opened) → let a = entry c .args in VisitSource (sheetOf (a .sheet .now)) (a .fixed) (a .hidden .now)
-  deeper c = let a = entry c .args in References.deeper (a .sheet .now) (a .fixed) (a .hidden .now) (a .depth)
+  -- the draw units, and what is left to do where they are to be counted
+  abbrev units : Opened → Units
+  units c =
+      let a = entry c .args in
+      referenceDrawUnits (lent-to (entry c) .sheet) (a .fixed .counts .cells) (a .depth) (read c .reference-at .result) (a .counts .now) (a .marks .now)
 
-  -- what is left to do where the draw units are to be counted
-  abbrev rest : Opened → World (List ℕ)
+  abbrev rest : Opened → Output
   rest c =
       let a = entry c .args in
-      rules.visitCountedReference noTag onTape (sheetOf (a .sheet .now)) (a .fixed .counts .cells) (fixedQuery (a .fixed) (a .hidden .now)) (deeper c) (a .depth) tt (read c .reference-at .result) (a .transform) (c .open-reference .result .«source_bbox») (c .open-reference .result .«world_bbox»)
-      (referenceDrawUnits (sheetOf (a .sheet .now)) (a .fixed .counts .cells) (a .depth) (read c .reference-at .result) (a .counts .now) (a .marks .now)) (reached c)
+      visitCountedReference (lent-to (entry c)) (onSourceBelow (lent-to (entry c)) (a .depth)) (a .depth) (read c .reference-at .result) (a .transform) (c .open-reference .result .«source_bbox») (c .open-reference .result .«world_bbox») (units c) (reached c)
 
-  abbrev visit : Opened → World (List ℕ)
+  abbrev visit : Opened → Output
   visit c =
       let a = entry c .args in
-      visitReference (sheetOf (a .sheet .now)) (a .fixed) (a .hidden .now) (a .depth) (a .number) (a .transform) (world (a .plan) (a .out .now) (a .counts .now) (a .marks .now))
+      visitReference (lent-to (entry c)) (a .depth) (a .number) (a .transform) (world (a .plan) (a .out .now) (a .counts .now) (a .marks .now))
 
   opened : (c : Opened) → let a = entry c .args in
-      leftOfReference (sheetOf (a .sheet .now)) (a .fixed) (a .hidden .now) (deeper c) (a .depth) (read c .reference-at .result) (a .transform) (c .open-reference .result) (reached c) ≡ visit c
+      leftOfReference (lent-to (entry c)) (onSourceBelow (lent-to (entry c)) (a .depth)) (a .depth) (read c .reference-at .result) (a .transform) (c .open-reference .result) (reached c) ≡ visit c
   opened c =
       let r = read c in
       let at-at = r .before .before in
       let a = entry c .args in
-      c .open-reference .ensures (sheetOf (a .sheet .now)) (a .hidden .now) (deeper c) (a .depth) (a .counts .now) (a .marks .now)
+      c .open-reference .ensures (lent-to (entry c)) (onSourceBelow (lent-to (entry c)) (a .depth)) (a .depth) (a .counts .now) (a .marks .now)
       ∙ References.found (a .sheet .now) (a .fixed) (a .hidden .now) (a .depth) (a .number) (a .transform) (world (a .plan) (a .out .now) (a .counts .now) (a .marks .now)) (at-at .at .given .0 .0) (sym (looked r .look-up .ensures) ∙ at-at .at .given .1) (r .reference-at .result) (r .reference-at .ensures)
 
   pub over : lts.Need-returns-2 (visit-reference-claims t) (visit-reference-at t) visit-reference.Post Inv-loop μ-loop
@@ -150,8 +151,8 @@ module _ (t : ℕ) where
       let g = grid u in
       let o = opening g in
       let a = entry o .args in
-      References.collapsed (a .sheet .now) (a .fixed) (a .hidden .now) (a .depth) (read o .reference-at .result) (a .transform) (o .open-reference .result .«source_bbox») (o .open-reference .result .«world_bbox»)
-      (reached o) (referenceDrawUnits (sheetOf (a .sheet .now)) (a .fixed .counts .cells) (a .depth) (read o .reference-at .result) (a .counts .now) (a .marks .now)) (u .reference-draw-units .result) (g .grid-count .result) (u .reference-draw-units .last .1 .1 .0) (u .reference-draw-units .last .1 .1 .1 .0)
+      References.collapsed (lent-to (entry o)) (a .depth) (read o .reference-at .result) (a .transform) (o .open-reference .result .«source_bbox») (o .open-reference .result .«world_bbox»)
+      (reached o) (units o) (u .reference-draw-units .result) (g .grid-count .result) (u .reference-draw-units .last .1 .1 .0) (u .reference-draw-units .last .1 .1 .1 .0)
       (u .reference-draw-units .ensures) (g .grid-count .ensures) (q .before .before .reference-test .result) (q .before .before .reference-test .ensures) (q .collapses .result) (q .collapses .ensures)
       (after-if2 .if2 .taken) (reasoned .collapse-reason .result) (reasoned .collapse-reason .ensures) (q .before .label .result) (q .before .label .ensures) _ (added .add-load .ensures (u .reference-draw-units .last .1 .1 .0) (u .reference-draw-units .last .1 .1 .1 .0))
       ∙ units-left g
@@ -167,7 +168,7 @@ module _ (t : ℕ) where
       let o = opening g in
       let a = entry o .args in (
         omega arith,
-        References.expands-deep (a .sheet .now) (a .fixed) (a .hidden .now) (a .depth) (o .open-reference .result .«source_bbox») (o .open-reference .result .«world_bbox») (g .grid-count .result) (u .reference-draw-units .result)
+        References.expands-deep (lent-to (entry o)) (a .depth) (o .open-reference .result .«source_bbox») (o .open-reference .result .«world_bbox») (g .grid-count .result) (u .reference-draw-units .result)
             (sym (ap collapses (q .before .before .reference-test .ensures)) ∙ sym (q .collapses .ensures) ∙ after-if2 .if2 .left),
         refl,
         refl,
@@ -178,13 +179,13 @@ module _ (t : ℕ) where
   abbrev count : Head → ℕ
   count c = grid (counted (asked c)) .grid-count .result
 
-  abbrev turn : Head → ℕ → World (List ℕ) → Flow (List ℕ)
+  abbrev turn : Head → ℕ → Output → Flow (List ℕ)
   turn c =
       let o = opened-at c in
       let a = entry o .args in
-      References.turn (a .sheet .now) (a .fixed) (a .hidden .now) (a .depth) (read o .reference-at .result) (a .transform) (o .open-reference .result .«source_bbox») (o .open-reference .result .«world_bbox») (c .before .source-units .result)
+      References.turn (lent-to (entry o)) (a .depth) (read o .reference-at .result) (a .transform) (o .open-reference .result .«source_bbox») (o .open-reference .result .«world_bbox») (c .before .source-units .result)
 
-  abbrev here : Head → World (List ℕ)
+  abbrev here : Head → Output
   here c = world (c .loop .next) (c .loop .out) (c .loop .counts) (c .loop .marks)
 
   -- what is left of the loop is what is left of the visit
@@ -198,8 +199,8 @@ module _ (t : ℕ) where
       let o = opening g in
       let a = entry o .args in
       ap ending (sym (c .loop .inv .5))
-      ∙ References.expanded (a .sheet .now) (a .fixed) (a .hidden .now) (a .depth) (read o .reference-at .result) (a .transform) (o .open-reference .result .«source_bbox») (o .open-reference .result .«world_bbox»)
-      (reached o) (referenceDrawUnits (sheetOf (a .sheet .now)) (a .fixed .counts .cells) (a .depth) (read o .reference-at .result) (a .counts .now) (a .marks .now)) (u .reference-draw-units .result) (g .grid-count .result) (u .reference-draw-units .last .1 .1 .0) (u .reference-draw-units .last .1 .1 .1 .0)
+      ∙ References.expanded (lent-to (entry o)) (a .depth) (read o .reference-at .result) (a .transform) (o .open-reference .result .«source_bbox») (o .open-reference .result .«world_bbox»)
+      (reached o) (units o) (u .reference-draw-units .result) (g .grid-count .result) (u .reference-draw-units .last .1 .1 .0) (u .reference-draw-units .last .1 .1 .1 .0)
       (u .reference-draw-units .ensures) (g .grid-count .ensures) (q .before .before .reference-test .result) (q .before .before .reference-test .ensures) (q .collapses .result) (q .collapses .ensures)
       (after-if2 .if2 .left) (shared .source-units .result) (shared .source-units .ensures)
       ∙ units-left g
@@ -231,7 +232,7 @@ module _ (t : ℕ) where
   abbrev head : Tried → Head
   head c = c .before .before .before
 
-  abbrev passed : Tried → World (List ℕ)
+  abbrev passed : Tried → Output
   passed c = world (c .try-member .result .plan) (c .try-member .last .1 .0) (head c .loop .counts) (head c .loop .marks)
 
   -- the visit of the member's source
@@ -239,19 +240,19 @@ module _ (t : ℕ) where
   visited c =
       let o = opened-at (head c) in
       let a = entry o .args in
-      visitSource (sheetOf (a .sheet .now)) (a .fixed) (a .hidden .now) (a .depth - 1) (read o .reference-at .result .source) (c .try-member .result .placement) (passed c)
+      visitSource (lent-to (entry o)) (a .depth - 1) (read o .reference-at .result .source) (c .try-member .result .placement) (passed c)
 
   abbrev member : Tried → Flow (List ℕ)
   member c = turn (head c) (head c .loop .i) (here (head c))
 
   tried : (c : Tried) → let o = opened-at (head c) in let a = entry o .args in
-      leftOfMember (sheetOf (a .sheet .now)) (a .fixed) (a .hidden .now) (rules.visitSource noTag onTape (sheetOf (a .sheet .now)) (a .fixed .counts .cells) (fixedQuery (a .fixed) (a .hidden .now)) (a .depth - 1)) (read o .reference-at .result) (c .try-member .result) (passed c) ≡ member c
+      leftOfMember (lent-to (entry o)) (onSource (lent-to (entry o)) (a .depth - 1)) (read o .reference-at .result) (c .try-member .result) (passed c) ≡ member c
   tried c =
-      let a = entry (opened-at (head c)) .args in
-      c .try-member .ensures (sheetOf (a .sheet .now)) (a .hidden .now) (rules.visitSource noTag onTape (sheetOf (a .sheet .now)) (a .fixed .counts .cells) (fixedQuery (a .fixed) (a .hidden .now)) (a .depth - 1)) (head c .loop .counts) (head c .loop .marks)
+      let s = entry (opened-at (head c)) in
+      c .try-member .ensures (lent-to s) (onSource (lent-to s) (s .args .depth - 1)) (head c .loop .counts) (head c .loop .marks)
 
   -- a member that halts ends the visit
-  halts : (c : Tried) (v : World (List ℕ)) → member c ≡ halt v → v ≡ visit (opened-at (head c))
+  halts : (c : Tried) (v : Output) → member c ≡ halt v → v ≡ visit (opened-at (head c))
   halts c v e = sym (ap ending (each-halt (turn (head c)) (count (head c)) (head c .loop .i) (here (head c)) v (c .before .before .loop-test .taken) e)) ∙ left-to-do (head c)
 
   pub depth-is-left : lts.Need-sub-visit-source (visit-reference-claims t) (visit-reference-at t) visit-reference.Post Inv-loop μ-loop
@@ -317,7 +318,7 @@ module _ (t : ℕ) where
       record { fits = omega (arith, after-loop-test .loop-test .taken, grid (counted (asked (after-loop-test .before))) .grid-count .ok) }
 
   -- a member that goes on leaves the rest of the loop
-  goes-on : (c : Tried) (v : World (List ℕ)) → member c ≡ go v → each (turn (head c)) (count (head c) - head c .loop .i) (head c .loop .i) (here (head c)) ≡ each (turn (head c)) (count (head c) - (head c .loop .i + 1)) (head c .loop .i + 1) v
+  goes-on : (c : Tried) (v : Output) → member c ≡ go v → each (turn (head c)) (count (head c) - head c .loop .i) (head c .loop .i) (here (head c)) ≡ each (turn (head c)) (count (head c) - (head c .loop .i + 1)) (head c .loop .i + 1) v
   goes-on c v e = each-go (turn (head c)) (count (head c)) (head c .loop .i) (here (head c)) v (c .before .before .loop-test .taken) e
 
   pub loop-turns : lts.Need-loop-again (visit-reference-claims t) (visit-reference-at t) visit-reference.Post Inv-loop μ-loop
