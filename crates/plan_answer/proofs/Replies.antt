@@ -6,10 +6,10 @@ use Prim.Native.Nat.{ℕ, _≤_, _<_}
 use native.Mathlib.Omega.{arith}
 use lib.ListN.{length, take, drop}
 use borrow.Author.Tests.{le-leb, lt-leb, ne-eqb}
-use Rattle.plan_text.specs.declared.query.QueryRecord.{QueryRecord}
-use Rattle.plan_text.specs.declared.query.FirstRecord.{FirstRecord}
-use Rattle.plan_text.specs.declared.query.FirstRecord.the-variants as first
-use Rattle.plan_text.specs.Query.{readQuery}
+use Rattle.plan_query.specs.declared.QueryRecord.{QueryRecord}
+use Rattle.plan_query.specs.declared.FirstRecord.{FirstRecord}
+use Rattle.plan_query.specs.declared.FirstRecord.the-variants as first
+use Rattle.plan_query.specs.Query.{readQuery}
 use Rattle.plan_rules.specs.declared.Answer.{Answer}
 use Rattle.plan_rules.specs.declared.Answer.the-variants.{Planned, Refused}
 use Rattle.plan_rules.specs.Limits.{maxSceneObjects}

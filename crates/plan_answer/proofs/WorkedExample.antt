@@ -7,6 +7,7 @@ use lib.ListN.{replicate, take}
 use Rattle.fields.specs.Field.{uint, f64, recordBytes}
 use Rattle.abstract_sheet.proofs.Examples.{workedText, workedCell, workedSheet}
 use Rattle.plan_text.specs.Ascii.{ascii}
+use Rattle.plan_query.proofs.Opened.{openedQuery}
 use Rattle.plan_text.proofs.Opened.{openedText}
 use Rattle.plan_rules.proofs.Cases.OpenedSheet.{openedSheet}
 use Rattle.plan_rules.specs.Samples.{whole}
@@ -25,20 +26,20 @@ replyOfInput s = replyOf s [] (replicate 80 7) (8 ∷ []) (9 ∷ 9 ∷ 9 ∷ [])
 
 -- "All it prints"
 pub worked-example : (replyOfInput (workedQuery ++ workedSheet)) .text ≡ ascii "text 0 4024000000000000 4034000000000000\ntotals 1 1 0 0 0 0\n"
-unfolding openedText openedSheet workedText workedCell workedSheet outcomeText replyOfQuery replyOf
+unfolding openedQuery openedText openedSheet workedText workedCell workedSheet outcomeText replyOfQuery replyOf
 worked-example = refl
 
 -- "A refusal prints `refused`, number, offset": a byte behind the sheet
 pub refusal : (replyOfInput (workedQuery ++ workedSheet ++ (0 ∷ []))) .text ≡ ascii "refused 2 86\n"
-unfolding openedText openedSheet workedText workedCell workedSheet outcomeText replyOfQuery replyOf
+unfolding openedQuery openedText openedSheet workedText workedCell workedSheet outcomeText replyOfQuery replyOf
 refusal = refl
 
 -- "A first record that is no whole query prints `no query`"
 pub no-query : (replyOfInput (take 53 workedQuery)) .text ≡ ascii "no query\n"
-unfolding openedText replyOf
+unfolding openedQuery openedText replyOf
 no-query = refl
 
 -- "Input beyond the program's buffers .. prints `too long` before all else": 86 bytes were read into a buffer of 86
 pub too-long : (replyOfRead workedSheet 86 [] [] [] []) .text ≡ ascii "too long\n"
-unfolding openedText workedText workedCell workedSheet replyOfRead
+unfolding openedQuery openedText workedText workedCell workedSheet replyOfRead
 too-long = refl

@@ -1,14 +1,14 @@
 -- What an input is answered, and what stands in every lent place after it: the contracts equate a call to these definitions.
--- Definitions only; rests on plan_text's reading of the query and the rules' outcome of a call.
+-- Definitions only; rests on plan_query's reading of the query and the rules' outcome of a call.
 use mathlib.Core.Bool.{cond}
 use mathlib.Core.List.{List}
 use Prim.Native.Nat.{ℕ}
 use lib.ListN.{length, take, drop}
 use lib.Dec.{leb}
-use Rattle.plan_text.specs.declared.query.QueryRecord.{QueryRecord}
-use Rattle.plan_text.specs.declared.query.FirstRecord.{FirstRecord}
-use Rattle.plan_text.specs.declared.query.FirstRecord.the-variants as first
-use Rattle.plan_text.specs.Query.{readQuery}
+use Rattle.plan_query.specs.declared.QueryRecord.{QueryRecord}
+use Rattle.plan_query.specs.declared.FirstRecord.{FirstRecord}
+use Rattle.plan_query.specs.declared.FirstRecord.the-variants as first
+use Rattle.plan_query.specs.Query.{readQuery}
 use Rattle.plan_rules.specs.Limits.{maxSceneObjects}
 use Rattle.plan_rules.specs.World.{queryOf}
 use Rattle.plan_rules.specs.Outcome.{Outcome, outcomeOf}

@@ -1,8 +1,8 @@
 // The answer to an input: a query, and then the sheet.
 use crate::Printed;
+use plan_query::FirstRecord;
+use plan_query::QueryRecord;
 use plan_rules::Answer;
-use plan_text::FirstRecord;
-use plan_text::QueryRecord;
 ghost use mathlib.Core.Path.{_≡_};
 ghost use Prim.Native.Nat.{_≤_};
 ghost use lib.ListN.{length};
@@ -50,7 +50,7 @@ pub fn answer(
     ensures { λ r. ⌜ reply r (now (hidden .exit)) (now (tape .exit)) (now (counts .exit)) (now (marks .exit)) ≡ replyOf (now (input .entry)) (now (hidden .entry)) (now (tape .entry)) (now (counts .entry)) (now (marks .entry)) ⌝ }
     ensures { λ r. ⌜ tapeEnd r ≤ length (now (tape .exit)) ⌝ }
 {
-    let first = plan_text::read_query(input, hidden);
+    let first = plan_query::read_query(input, hidden);
     match first {
         FirstRecord::Query(query) => plan_query(input, query, hidden, tape, counts, marks),
         FirstRecord::NoQuery => Printed::NoQuery,

@@ -1,11 +1,8 @@
--- Examples, computed: the lines of document 01's worked example, a line of each other kind, numbers, and what is a whole query.
+-- Examples, computed: the lines of document 01's worked example, a line of each other kind, and numbers.
 -- Assumes nothing.
 use mathlib.Core.Path.{_≡_, refl}
-use mathlib.Core.Bool.{true, false}
 use mathlib.Core.List.{List, [], _∷_, _++_}
 use Prim.Native.Nat.{ℕ}
-use lib.ListN.{replicate}
-use Rattle.fields.specs.Field.{uintBytes}
 use Rattle.geometry.specs.Placement.{IDENTITY}
 use Rattle.records.specs.Sources.{noLabel}
 use Rattle.plan_rules.specs.declared.Reason.the-variants as reason
@@ -13,7 +10,6 @@ use Rattle.plan_rules.specs.Event.{Event, batch, text, point, proxy, totals, en
 use Rattle.plan_rules.specs.Samples.{spot, page}
 use Rattle.plan_text.specs.Ascii.{ascii}
 use Rattle.plan_text.specs.Text.{decimal, hexadecimal, lineOf, refusedLine, linesFrom}
-use Rattle.plan_text.specs.Query.{wholeQuery, hiddenLayers}
 use Rattle.plan_text.proofs.Opened.{openedText}
 
 -- ---- the worked example
@@ -60,24 +56,3 @@ numbers = (refl, refl, refl, refl)
 pub patterns : (hexadecimal 0 ≡ ascii "0000000000000000") × (hexadecimal 0x7FF8000000000000 ≡ ascii "7ff8000000000000") × (hexadecimal 0x123456789ABCDEF ≡ ascii "0123456789abcdef")
 unfolding openedText
 patterns = (refl, refl, refl)
-
--- ---- a whole query
-
--- a record of a length and a kind with so many bytes behind its head
-abbrev record-of : ℕ → ℕ → ℕ → List ℕ
-record-of size kind more = uintBytes 4 size ++ uintBytes 2 kind ++ replicate more 0
-
-pub whole-query : (wholeQuery (record-of 54 20 48) ≡ true) × (wholeQuery (record-of 58 20 52) ≡ true) × (wholeQuery (record-of 54 20 100) ≡ true)
-unfolding openedText
-whole-query = (refl, refl, refl)
-
--- 53 bytes; a length below 54; one past the input; one that is not 54 + 4n; another kind
-pub no-query : (wholeQuery (record-of 54 20 47) ≡ false) × (wholeQuery (record-of 50 20 48) ≡ false) × (wholeQuery (record-of 58 20 48) ≡ false)
-    × (wholeQuery (record-of 56 20 52) ≡ false)
-    × (wholeQuery (record-of 54 21 48) ≡ false)
-unfolding openedText
-no-query = (refl, refl, refl, refl, refl)
-
-pub two-hidden-layers : hiddenLayers (record-of 62 20 48 ++ uintBytes 4 65536 ++ uintBytes 4 131075) ≡ 65536 ∷ 131075 ∷ []
-unfolding openedText
-two-hidden-layers = refl

@@ -2,15 +2,11 @@
 --     Digits       how many digits a number has, and how they are written
 --     Pieces       the pieces of a line, one after the other
 --     TapeLines    the lines of a tape, record by record
---     Layers       hidden layers, copied one after the other
---     Reading      the ends of a reading of the query
 --     Examples     document 01's worked example and other lines, computed
 --     Opened       one name that opens the text, to compute with it
 -- Assumes nothing.
 pub mod Digits
 pub mod Pieces
 pub mod TapeLines
-pub mod Layers
-pub mod Reading
 pub mod Examples
 pub mod Opened

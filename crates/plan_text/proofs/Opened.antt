@@ -1,4 +1,4 @@
--- To compute with the text a proof names one definition: `unfolding openedText` opens it and the query, down to the fields and the rules.
+-- To compute with the text a proof names one definition: `unfolding openedText` opens it, down to the fields and the rules.
 -- Assumes nothing.
 use Prim.Native.Nat.{ℕ}
 use Rattle.fields.specs.Field.{uintAt, uintBytes, f64At, f64Bytes, recordBytes}
@@ -6,8 +6,7 @@ use Rattle.walk.specs.Offsets.{offsetsIn, offsetsFrom}
 use Rattle.plan_rules.specs.Event.{encode}
 use Rattle.plan_rules.proofs.Cases.Opened.{opened}
 use Rattle.plan_text.specs.Text.{digit, digits, decimalSizeIn, decimalSize, decimal, hexadecimal, number, float, labelText, eachField, lineOf, nextRecord, linesAt, linesFrom}
-use Rattle.plan_text.specs.Query.{wholeQuery, optionsAt, hiddenCount, layersFrom, hiddenLayers, queryRecord, readQuery}
 
 unfoldable pub openedText : ℕ
-unfolding opened encode recordBytes uintAt uintBytes f64At f64Bytes offsetsIn offsetsFrom digit digits decimalSizeIn decimalSize decimal hexadecimal number float labelText eachField lineOf nextRecord linesAt linesFrom wholeQuery optionsAt hiddenCount layersFrom hiddenLayers queryRecord readQuery
+unfolding opened encode recordBytes uintAt uintBytes f64At f64Bytes offsetsIn offsetsFrom digit digits decimalSizeIn decimalSize decimal hexadecimal number float labelText eachField lineOf nextRecord linesAt linesFrom
 openedText = 0

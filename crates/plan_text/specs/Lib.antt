@@ -1,10 +1,8 @@
--- The text of the program `plan`: what it reads before the sheet, and what it prints.
+-- The text of the program `plan`: what it prints.
 --     Ascii      a text as the codes of its characters
---     Query      the first record of the input
 --     Text       numbers, lines, and the lines of a tape
 --     Written    what a writer leaves in the lent text
 -- Definitions only. Assumes nothing.
 pub mod Ascii
-pub mod Query
 pub mod Text
 pub mod Written

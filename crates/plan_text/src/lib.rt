@@ -1,6 +1,5 @@
-// The text of the program `plan`: the query that it reads, and the lines that it prints.
+// The text of the program `plan`: the lines that it prints.
 // Every function works on lent slices and makes no call of the system.
-mod query; // the first record of the input
 mod number; // numbers in decimal and hexadecimal digits
 mod piece; // the pieces of a line
 mod line; // one line for each record of the tape, and for a refusal
@@ -10,6 +9,3 @@ pub use line::put_refused;
 pub use lines::Lines;
 pub use lines::put_lines;
 pub use piece::put_word;
-pub use query::FirstRecord;
-pub use query::QueryRecord;
-pub use query::read_query;

@@ -16,6 +16,7 @@ pub use items::push_node;
 pub use items::push_text;
 pub use load::add_load;
 pub use load::add_load_if_boxed;
+pub use load::collapse_reason;
 
 // A plan, and whether the visit goes on: `false` where a limit stopped a node's points or a list of a cell.
 pub struct Visited {

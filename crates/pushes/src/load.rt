@@ -2,9 +2,12 @@
 use crate::events::list_proxy;
 use geometry::bbox::Bounds;
 use geometry::bbox::WorldBBox;
+use geometry::screen::CollapseTest;
 use limits::MAX_LOAD_PROXIES;
 use plan_rules::Reason;
 use plan_rules::ScenePlan;
+ghost use mathlib.Core.Path.{_≡_};
+ghost use Rattle.plan_rules.specs.Visit.{collapseReason};
 ghost use Rattle.plan_rules.specs.OnTape.{Leaves, addLoad, addLoadIfBoxed};
 
 pub fn add_load(
@@ -42,4 +45,17 @@ pub fn add_load_if_boxed(
         label,
         WorldBBox::new(min_x, min_y, max_x, max_y),
     )
+}
+
+// The reason that a test gives a reference's or a member's box.
+pub fn collapse_reason(test: CollapseTest) -> Reason
+    ensures { λ r. ⌜ r ≡ collapseReason test ⌝ }
+{
+    match test {
+        CollapseTest::Passed => Reason::DenseReference,
+        CollapseTest::Depth => Reason::DepthAtMostOne,
+        CollapseTest::Side => Reason::SmallSide,
+        CollapseTest::Grid => Reason::LargeGrid,
+        CollapseTest::Density => Reason::DenseReference,
+    }
 }

@@ -27,8 +27,8 @@ use Rattle.plan_rules.specs.OnTape.{Given, givenBytes, Output, query, addLoadIf
 use Rattle.plan_rules.proofs.Paths.Cells as Paths
 use Rattle.visit_items.specs.declared.OpenCell.{OpenCell}
 use Rattle.visit_items.specs.Lists.{opened, visitReferences, visitLists}
-use Rattle.visit_steps.specs.declared.cell.Entered.{Entered}
-use Rattle.visit_steps.specs.Left.{foundCell, leftOfCell}
+use Rattle.enter_cell.specs.declared.Entered.{Entered}
+use Rattle.enter_cell.specs.Left.{foundCell, leftOfCell}
 
 -- one turn of the loop over the references of the cell at an offset
 abbrev pub turn : List ℕ → Fixed → List ℕ → ℕ → OpenCell → ℕ → Output → Flow (List ℕ)

@@ -32,7 +32,7 @@ pub fn visit_cell(
     };
     let record = records::cell_at(sheet, at);
     let bbox = record.bbox;
-    let entered = visit_steps::cell::enter_cell(fixed, out, marks, plan, cell, bbox, transform);
+    let entered = enter_cell::enter_cell(fixed, out, marks, plan, cell, bbox, transform);
     let opened = entered.plan;
     if !entered.goes {
         return opened;
@@ -93,7 +93,7 @@ fn visit_reference(
     };
     let reference = records::reference_at(sheet, at);
     let source = reference.source;
-    let opened = visit_steps::reference::open_reference(fixed, out, plan, reference, transform);
+    let opened = open_reference::open_reference(fixed, out, plan, reference, transform);
     let mut next = opened.plan;
     if !opened.goes {
         return next;
@@ -109,7 +109,7 @@ fn visit_reference(
         reference,
         depth,
     );
-    let test = visit_steps::reference::reference_test(
+    let test = open_reference::reference_test(
         fixed,
         source_bbox,
         world_bbox,
@@ -119,13 +119,13 @@ fn visit_reference(
     );
     let label = records::label(source);
     if geometry::screen::collapses(test) {
-        let why = visit_steps::reference::collapse_reason(test);
+        let why = pushes::collapse_reason(test);
         return pushes::add_load(out, next, why, label, world_bbox);
     }
     let share = units::source_units(draw_units, count);
     let mut i: u64 = 0;
     while i < count {
-        let tried = visit_steps::member::try_member(
+        let tried = try_member::try_member(
             fixed,
             out,
             next,

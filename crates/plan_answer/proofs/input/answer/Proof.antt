@@ -3,7 +3,7 @@
 use native.Mathlib.Omega.{arith}
 use denote.Ref.{now}
 use borrow.Author.Needs.{needs}
-use Rattle.plan_text.proofs.Reading.{query-within}
+use Rattle.plan_query.proofs.Reading.{query-within}
 use Rattle.plan_answer.proofs.Replies.{first-reply, no-query-reply, too-long-reply}
 use Rattle.plan_answer.proofs.input.answer.Statement.{statement}
 use Rattle.plan_answer.proofs.input.answer.Tie as tie

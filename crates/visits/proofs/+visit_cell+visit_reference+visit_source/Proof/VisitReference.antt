@@ -11,7 +11,8 @@ use Rattle.geometry.specs.Screen.{collapses}
 use Rattle.plan_rules.specs.World.{world, Flow, go, halt, ending, each}
 use Rattle.plan_rules.specs.DrawUnits.{Units, referenceDrawUnits}
 use Rattle.plan_rules.specs.OnTape.{Given, givenBytes, given, Output, visitCountedReference, onSource, onSourceBelow, visitReference, visitSource}
-use Rattle.visit_steps.specs.Left.{leftOfReference, leftOfMember}
+use Rattle.open_reference.specs.Left.{leftOfReference}
+use Rattle.try_member.specs.Left.{leftOfMember}
 use Rattle.plan_rules.proofs.Paths.Loops.{each-start, each-go, each-halt, each-done}
 use Rattle.visits.proofs.References
 use Rattle.visits.proofs.visit_reference.Reads as visit-reference
