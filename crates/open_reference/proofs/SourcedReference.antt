@@ -20,6 +20,23 @@ use Rattle.plan_rules.specs.DrawUnits.{referenceDrawUnits}
 use Rattle.plan_rules.specs.Visit as visit
 use Rattle.plan_rules.specs.OnTape.{Given, Output, query, say, addLoad, VisitSource, visitCountedReference, visitBoxedReference, visitSourcedReference}
 
+-- what the code has read where both boxes are there: the source's, and the reference's own, placed
+pub record HasBox (r : PreparedReference) (sourceBox : WorldBBox) : Type 0 where
+  pub left : Float
+  pub bottom : Float
+  pub right : Float
+  pub top : Float
+  pub given : r .«source_bbox» ≡ Box left bottom right top
+  pub made : sourceBox ≡ bbox left bottom right top
+
+pub record HasMembers (r : PreparedReference) (p : Placement) (sourceBox worldBox : WorldBBox) : Type 0 where
+  pub left : Float
+  pub bottom : Float
+  pub right : Float
+  pub top : Float
+  pub given : referenceBbox (r .grid) sourceBox ≡ Box left bottom right top
+  pub placed : worldBox ≡ transformBbox p (bbox left bottom right top)
+
 module _ {f : Fixed} (g : Given f) (on : VisitSource g) (depth : ℕ) (r : PreparedReference) (p : Placement) (w : Output) where
   abbrev visited : Output
   visited = visitSourcedReference g on depth r p (r .«source_bbox») w
@@ -31,37 +48,40 @@ module _ {f : Fixed} (g : Given f) (on : VisitSource g) (depth : ℕ) (r : Prepa
   unfolding visit.visitSourcedReference
   reference-unboxed a = sourced Absent a
 
-  module _ (x₀ y₀ x₁ y₁ : Float) (has-box : r .«source_bbox» ≡ Box x₀ y₀ x₁ y₁) (sourceBox : WorldBBox) (made : sourceBox ≡ bbox x₀ y₀ x₁ y₁) where
+  module _ {sourceBox : WorldBBox} (source : HasBox r sourceBox) where
     boxed : (o : Bounds) → referenceBbox (r .grid) sourceBox ≡ o → visitBoxedReference g on depth r p sourceBox o w ≡ visited
     unfolding visit.visitSourcedReference
     boxed o a =
         ap (λ (o : Bounds). visitBoxedReference g on depth r p sourceBox o w) (sym a)
-        ∙ ap (λ (b : WorldBBox). visitBoxedReference g on depth r p b (referenceBbox (r .grid) b) w) made
-        ∙ sourced (Box x₀ y₀ x₁ y₁) has-box
+        ∙ ap (λ (b : WorldBBox). visitBoxedReference g on depth r p b (referenceBbox (r .grid) b) w) (source .made)
+        ∙ sourced (Box (source .left) (source .bottom) (source .right) (source .top)) (source .given)
 
     pub reference-empty : referenceBbox (r .grid) sourceBox ≡ Absent → w ≡ visited
     unfolding visit.visitBoxedReference
     reference-empty a = boxed Absent a
 
-    module _ (x₂ y₂ x₃ y₃ : Float) (has-members : referenceBbox (r .grid) sourceBox ≡ Box x₂ y₂ x₃ y₃) (worldBox : WorldBBox) (placed : worldBox ≡ transformBbox p (bbox x₂ y₂ x₃ y₃)) where
+    module _ {worldBox : WorldBBox} (whole : HasMembers r p sourceBox worldBox) where
+      within : visitBoxedReference g on depth r p sourceBox (Box (whole .left) (whole .bottom) (whole .right) (whole .top)) w ≡ visited
+      within = boxed (Box (whole .left) (whole .bottom) (whole .right) (whole .top)) (whole .given)
+
       pub reference-culled : overlaps worldBox (f .options .view) ≡ false → (v : Output) → v ≡ say culledReference w → v ≡ visited
       unfolding visit.visitBoxedReference
-      reference-culled a v counted = counted ∙ (rw (← placed, a)) ∙ boxed (Box x₂ y₂ x₃ y₃) has-members
+      reference-culled a v counted = counted ∙ (rw (← whole .placed, a)) ∙ within
 
       module _ (seen : overlaps worldBox (f .options .view) ≡ true) where
         -- a limit is met: v is the world with the reference's box added
         pub reference-detail-full : detailCellsFull (w .state) ≡ true
             → (v : Output) → v ≡ addLoad reason.CellLimit (label (r .source)) worldBox w → v ≡ visited
         unfolding visit.visitBoxedReference
-        reference-detail-full b v added = added ∙ (rw (← placed, seen, b)) ∙ boxed (Box x₂ y₂ x₃ y₃) has-members
+        reference-detail-full b v added = added ∙ (rw (← whole .placed, seen, b)) ∙ within
 
-        pub reference-exhausted : detailCellsFull (w .state) ≡ false → detailBudgetExhausted (query g) (w .state) ≡ true
-            → (v : Output) → v ≡ addLoad reason.OtherLimit (label (r .source)) worldBox w → v ≡ visited
-        unfolding visit.visitBoxedReference
-        reference-exhausted b x v added = added ∙ (rw (← placed, seen, b, x)) ∙ boxed (Box x₂ y₂ x₃ y₃) has-members
+        module _ (cells-left : detailCellsFull (w .state) ≡ false) where
+          pub reference-exhausted : detailBudgetExhausted (query g) (w .state) ≡ true
+              → (v : Output) → v ≡ addLoad reason.OtherLimit (label (r .source)) worldBox w → v ≡ visited
+          unfolding visit.visitBoxedReference
+          reference-exhausted x v added = added ∙ (rw (← whole .placed, seen, cells-left, x)) ∙ within
 
-        pub reference-opened : detailCellsFull (w .state) ≡ false
-            → detailBudgetExhausted (query g) (w .state) ≡ false
-            → visitCountedReference g on depth r p sourceBox worldBox (referenceDrawUnits (g .sheet) (f .counts .cells) depth r (w .counts) (w .marks)) w ≡ visited
-        unfolding visit.visitBoxedReference
-        reference-opened b x = (rw (← placed, seen, b, x)) ∙ boxed (Box x₂ y₂ x₃ y₃) has-members
+          pub reference-opened : detailBudgetExhausted (query g) (w .state) ≡ false
+              → visitCountedReference g on depth r p sourceBox worldBox (referenceDrawUnits (g .sheet) (f .counts .cells) depth r (w .counts) (w .marks)) w ≡ visited
+          unfolding visit.visitBoxedReference
+          reference-opened x = (rw (← whole .placed, seen, cells-left, x)) ∙ within
