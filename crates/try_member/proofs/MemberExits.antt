@@ -1,12 +1,11 @@
 -- One member of a reference: its column and row lie within the grid, and the ways out of `try_member`, one law for each, by what its calls answer.
 -- Assumes nothing.
 use mathlib.Core.Path.{_≡_, sym, ap, _∙_}
-use mathlib.Core.Bool.{Bool, true, false, not}
+use mathlib.Core.Bool.{Bool, true, false}
 use mathlib.Core.List.{List}
 use Prim.Native.Nat.{ℕ, zero, suc, _*_, _/_, _%_, _<_}
 use native.Mathlib.Nat.{div-lt-iff-lt-mul, mod-lt}
 use native.Mathlib.Omega.{arith}
-use borrow.Author.Tests.{not-true, not-false}
 use Rattle.geometry.specs.declared.bbox.WorldBBox.{WorldBBox}
 use Rattle.geometry.specs.declared.placement.Placement.{Placement}
 use Rattle.geometry.specs.declared.screen.ScreenSize.{ScreenSize}
@@ -18,7 +17,6 @@ use Rattle.geometry.specs.Screen.{referenceScreenSize, isSubpixel, collapseTest
 use Rattle.records.specs.declared.PreparedReference.{PreparedReference}
 use Rattle.records.specs.Sources.{label}
 use Rattle.plan_rules.specs.declared.Fixed.{Fixed}
-use Rattle.plan_rules.specs.declared.Reason.{Reason}
 use Rattle.plan_rules.specs.declared.Reason.the-variants as reason
 use Rattle.plan_rules.specs.Event.{skippedMember, culledReference}
 use Rattle.plan_rules.specs.World.{detailBudgetExhausted, Flow, go, halt}
@@ -42,88 +40,67 @@ module _ (i columns : ℕ) where
     pub row-within : i % rows < rows
     row-within = mod-lt i (has-a-row rows h)
 
--- ---- the ways out
+-- ---- what the code knows of a member
 
-module _ {f : Fixed} (g : Given f) (on : VisitSource g) (d : ℕ) (r : PreparedReference) (p : Placement) (sourceBox worldBox : WorldBBox) (units column row : ℕ) (w : Output) where
-  abbrev step : Flow (List ℕ)
-  step = memberStep g on d r p sourceBox worldBox units column row w
-
+module _ (r : PreparedReference) (p : Placement) (sourceBox : WorldBBox) (column row : ℕ) where
   abbrev memberBox : WorldBBox
   memberBox = transformBbox (p · gridMemberTransform (r .grid) column row) sourceBox
 
-  abbrev memberSize : ScreenSize
-  memberSize = referenceScreenSize memberBox (f .options .zoom) (sourceIsDegenerate sourceBox)
+  -- its label, its placement and its box
+  pub record Placed (l : ℕ) (placement : Placement) (box : WorldBBox) : Type 0 where
+    pub labelled : l ≡ label (r .source)
+    pub at : placement ≡ p · gridMemberTransform (r .grid) column row
+    pub boxed : box ≡ memberBox
 
-  -- the label, and whether the budget is exhausted
-  module _ (l : ℕ) (label-is : l ≡ label (r .source)) (x : Bool) (exhausted-is : x ≡ detailBudgetExhausted (query g) (w .state)) where
-    pub try-exhausted : x ≡ true → (v : Output) → v ≡ addLoad reason.OtherLimit l worldBox w → halt v ≡ step
-    try-exhausted e v loaded =
-        ap halt (loaded ∙ ap (λ (n : ℕ). addLoad reason.OtherLimit n worldBox w) label-is)
-        ∙ sym (member-exhausted g on d r p sourceBox worldBox units column row w (sym exhausted-is ∙ e))
+-- ---- the ways out
 
-    -- with room left, the member's placement and box, and whether it is in view
-    module _ (room : x ≡ false)
-        (child : Placement) (child-is : child ≡ gridMemberTransform (r .grid) column row)
-        (placement : Placement) (placement-is : placement ≡ p · child)
-        (box : WorldBBox) (box-is : box ≡ transformBbox placement sourceBox)
-        (y : Bool) (overlaps-is : y ≡ overlaps box (f .options .view)) where
-      room-left : detailBudgetExhausted (query g) (w .state) ≡ false
-      room-left = sym exhausted-is ∙ room
+module _ {f : Fixed} (g : Given f) (on : VisitSource g) (d : ℕ) (r : PreparedReference) (p : Placement) (sourceBox worldBox : WorldBBox) (units column row : ℕ) (w : Output)
+    {l : ℕ} {placement : Placement} {box : WorldBBox} (known : Placed r p sourceBox column row l placement box) where
+  abbrev step : Flow (List ℕ)
+  step = memberStep g on d r p sourceBox worldBox units column row w
 
-      member-placement : placement ≡ p · gridMemberTransform (r .grid) column row
-      member-placement = placement-is ∙ ap (λ (a : Placement). p · a) child-is
+  abbrev sizeOf : WorldBBox → ScreenSize
+  sizeOf b = referenceScreenSize b (f .options .zoom) (sourceIsDegenerate sourceBox)
 
-      member-box : box ≡ memberBox
-      member-box = box-is ∙ ap (λ (a : Placement). transformBbox a sourceBox) member-placement
+  abbrev testOf : WorldBBox → CollapseTest
+  testOf b = collapseTest (sizeOf b .width) (sizeOf b .height) 1 units d false
 
-      in-view : overlaps memberBox (f .options .view) ≡ y
-      in-view = sym (overlaps-is ∙ ap (λ (b : WorldBBox). overlaps b (f .options .view)) member-box)
+  pub try-exhausted : detailBudgetExhausted (query g) (w .state) ≡ true → (v : Output) → v ≡ addLoad reason.OtherLimit l worldBox w → halt v ≡ step
+  try-exhausted e v loaded =
+      ap halt (loaded ∙ ap (λ (n : ℕ). addLoad reason.OtherLimit n worldBox w) (known .labelled))
+      ∙ sym (member-exhausted g on d r p sourceBox worldBox units column row w e)
 
-      pub try-culled : not y ≡ true → (v : Output) → v ≡ say culledReference w → go v ≡ step
-      try-culled e v said =
-          ap go said
-          ∙ sym (member-culled g on d r p sourceBox worldBox units column row w room-left (in-view ∙ not-true y e))
+  module _ (room : detailBudgetExhausted (query g) (w .state) ≡ false) where
+    pub try-culled : overlaps box (f .options .view) ≡ false → (v : Output) → v ≡ say culledReference w → go v ≡ step
+    try-culled e v said =
+        ap go said
+        ∙ sym (member-culled g on d r p sourceBox worldBox units column row w room (sym (ap (λ (b : WorldBBox). overlaps b (f .options .view)) (known .boxed)) ∙ e))
 
-      -- in view, the member's size on the screen
-      module _ (seen : not y ≡ false)
-          (degenerate : Bool) (degenerate-is : degenerate ≡ sourceIsDegenerate sourceBox)
-          (size : ScreenSize) (size-is : size ≡ referenceScreenSize box (f .options .zoom) degenerate)
-          (s : Bool) (subpixel-is : s ≡ isSubpixel size) where
-        member-seen : overlaps memberBox (f .options .view) ≡ true
-        member-seen = in-view ∙ not-false y seen
+    module _ (seen : overlaps box (f .options .view) ≡ true) where
+      member-seen : overlaps (memberBox r p sourceBox column row) (f .options .view) ≡ true
+      member-seen = sym (ap (λ (b : WorldBBox). overlaps b (f .options .view)) (known .boxed)) ∙ seen
 
-        member-size : size ≡ memberSize
-        member-size =
-            size-is
-            ∙ ap (referenceScreenSize box (f .options .zoom)) degenerate-is
-            ∙ ap (λ (b : WorldBBox). referenceScreenSize b (f .options .zoom) (sourceIsDegenerate sourceBox)) member-box
+      -- the tape does not show which member was skipped
+      pub try-skipped : isSubpixel (sizeOf box) ≡ true → (v : Output) → ((degenerate : Bool) (b : WorldBBox) → v ≡ say (skippedMember degenerate b) w) → go v ≡ step
+      try-skipped e v said =
+          ap go (said (sourceIsDegenerate sourceBox) (memberBox r p sourceBox column row))
+          ∙ sym (member-skipped g on d r p sourceBox worldBox units column row w room member-seen (sym (ap (λ (b : WorldBBox). isSubpixel (sizeOf b)) (known .boxed)) ∙ e))
 
-        member-subpixel : isSubpixel memberSize ≡ s
-        member-subpixel = sym (subpixel-is ∙ ap isSubpixel member-size)
+      module _ (large : isSubpixel (sizeOf box) ≡ false) where
+        member-large : isSubpixel (sizeOf (memberBox r p sourceBox column row)) ≡ false
+        member-large = sym (ap (λ (b : WorldBBox). isSubpixel (sizeOf b)) (known .boxed)) ∙ large
 
-        -- the tape does not show which member was skipped
-        pub try-skipped : s ≡ true → (v : Output) → ((degenerate : Bool) (b : WorldBBox) → v ≡ say (skippedMember degenerate b) w) → go v ≡ step
-        try-skipped e v said =
-            ap go (said (sourceIsDegenerate sourceBox) memberBox)
-            ∙ sym (member-skipped g on d r p sourceBox worldBox units column row w room-left member-seen (member-subpixel ∙ e))
+        member-collapses : {z : Bool} → collapses (testOf box) ≡ z → collapses (testOf (memberBox r p sourceBox column row)) ≡ z
+        member-collapses e = sym (ap (λ (b : WorldBBox). collapses (testOf b)) (known .boxed)) ∙ e
 
-        -- large enough, the first test met, and whether it collapses the member
-        module _ (large : s ≡ false) (test : CollapseTest) (test-is : test ≡ collapseTest (size .width) (size .height) 1 units d false) (z : Bool) (collapses-is : z ≡ collapses test) where
-          member-test : collapseTest (memberSize .width) (memberSize .height) 1 units d false ≡ test
-          member-test = sym (test-is ∙ ap (λ (k : ScreenSize). collapseTest (k .width) (k .height) 1 units d false) member-size)
+        pub try-collapsed : collapses (testOf box) ≡ true → (v : Output) → v ≡ addLoad (collapseReason (testOf box)) l box w → go v ≡ step
+        try-collapsed e v loaded =
+            ap go (loaded
+            ∙ ap (λ (n : ℕ). addLoad (collapseReason (testOf box)) n box w) (known .labelled)
+            ∙ ap (λ (b : WorldBBox). addLoad (collapseReason (testOf b)) (label (r .source)) b w) (known .boxed))
+            ∙ sym (member-collapsed g on d r p sourceBox worldBox units column row w room member-seen member-large (member-collapses e))
 
-          member-collapses : collapses (collapseTest (memberSize .width) (memberSize .height) 1 units d false) ≡ z
-          member-collapses = ap collapses member-test ∙ sym collapses-is
-
-          pub try-collapsed : z ≡ true → (why : Reason) → why ≡ collapseReason test → (v : Output) → v ≡ addLoad why l box w → go v ≡ step
-          try-collapsed e why why-is v loaded =
-              ap go (loaded
-              ∙ ap (λ (y : Reason). addLoad y l box w) (why-is ∙ ap collapseReason (sym member-test))
-              ∙ ap (λ (n : ℕ). addLoad (collapseReason (collapseTest (memberSize .width) (memberSize .height) 1 units d false)) n box w) label-is
-              ∙ ap (λ (b : WorldBBox). addLoad (collapseReason (collapseTest (memberSize .width) (memberSize .height) 1 units d false)) (label (r .source)) b w) member-box)
-              ∙ sym (member-collapsed g on d r p sourceBox worldBox units column row w room-left member-seen (member-subpixel ∙ large) (member-collapses ∙ e))
-
-          -- the source is left to be visited
-          pub try-opens : z ≡ false → haltWithMember (label (r .source)) box (on tt (r .source) placement w) ≡ step
-          unfolding visit.memberStep
-          try-opens e = rw (room-left, member-seen, member-subpixel ∙ large, member-collapses ∙ e, member-box, member-placement)
+        -- the source is left to be visited
+        pub try-opens : collapses (testOf box) ≡ false → haltWithMember (label (r .source)) box (on tt (r .source) placement w) ≡ step
+        unfolding visit.memberStep
+        try-opens e = rw (room, member-seen, member-large, member-collapses e, known .boxed, known .at)

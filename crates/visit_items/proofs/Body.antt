@@ -7,7 +7,7 @@ use Prim.Native.Nat.{ℕ}
 use borrow.Author.Tests.{not-true, not-false}
 use Rattle.abstract_sheet.specs.Sheet.{CellRecord}
 use Rattle.plan_rules.specs.declared.Fixed.{Fixed}
-use Rattle.plan_rules.specs.World.{Flow, go, halt, flow, each, ending}
+use Rattle.plan_rules.specs.World.{Flow, go, halt, flow, each}
 use Rattle.plan_rules.specs.Visit as visit
 use Rattle.plan_rules.specs.OnTape.{Given, Output, VisitReference}
 use Rattle.visit_items.specs.declared.OpenCell.{OpenCell}
