@@ -5,14 +5,13 @@ use mathlib.Core.List.{List}
 use mathlib.Core.Bool.{Bool, false, cond}
 use lib.Dec.{leb, eqb}
 use Rattle.walk.specs.Offsets.{lengthAt, kindAt}
-use Rattle.records.specs.Format as field
-use Rattle.records.specs.Format.{f, numberWidth, geometry, text, node, reference, cell, endOf, fieldAt}
+use Rattle.records.specs.Format.{f, numberWidth, geometry, text, node, reference, cell, endOf}
+use Rattle.records.specs.Records.{listCountsAt}
 use Rattle.check_record.specs.Tests.{both}
 
 -- a cell's "counts of batches, texts, nodes, references 2 each", together
 unfoldable pub listsAt : List ℕ → ℕ → ℕ
-listsAt s at =
-    fieldAt cell field.geometryCount s at + fieldAt cell field.textCount s at + fieldAt cell field.nodeCount s at + fieldAt cell field.referenceCount s at
+listsAt s at = let n = listCountsAt s at in n .geometries + n .texts + n .nodes + n .references
 
 -- The column "length" of the table, for a record of a kind whose length its own body does not decide: a batch's 46,
 -- a text's 26 + n with "0 to 512 value bytes", a node's 10 + 16n with "1 to 50 points", a reference's 122. No other kind is right.

@@ -9,6 +9,7 @@ use Rattle.fields.specs.Field.{uintAt}
 use Rattle.walk.specs.Offsets.{kindAt}
 use Rattle.records.specs.Format as field
 use Rattle.records.specs.Format.{f, reference, cell, offsetIn, fieldAt}
+use Rattle.records.specs.Records.{sourceFieldAt}
 use Rattle.check_record.specs.Tests.{both}
 
 -- "An absent box is 32 zero bytes."
@@ -30,7 +31,7 @@ gridOk columns rows flags source zeros =
 unfoldable pub referenceOk : List ℕ → ℕ → Bool
 referenceOk s at =
     gridOk (fieldAt reference field.columns s at) (fieldAt reference field.rows s at) (fieldAt reference field.flags s at)
-    (sourceOk (fieldAt reference field.sourceKind s at) (fieldAt reference field.sourceNumber s at))
+    (sourceOk (sourceFieldAt s at .kind) (sourceFieldAt s at .number))
     (zeroBox s (at + offsetIn reference field.box))
 
 -- "Cell flags: bit 0 box present."

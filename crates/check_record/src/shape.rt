@@ -7,15 +7,11 @@ ghost use Rattle.records.specs.Format.{cell, endOf};
 ghost use Rattle.check_record.specs.Shape.{listsAt, lengthOk, shapeOk};
 use fields::KIND;
 use records::format::CELL_END;
-use records::format::GEOMETRY_COUNT;
 use records::format::GEOMETRY_END;
-use records::format::NODE_COUNT;
 use records::format::NODE_END;
 use records::format::NUMBER;
 use records::format::POINT;
-use records::format::REFERENCE_COUNT;
 use records::format::REFERENCE_END;
-use records::format::TEXT_COUNT;
 use records::format::TEXT_END;
 
 // How many numbers a cell's four lists have together.
@@ -23,11 +19,8 @@ fn lists_at(s: &[u8], at: usize) -> u32
     requires { ⌜ at + endOf cell ≤ length (now s) ⌝ }
     ensures { λ r. ⌜ r ≡ listsAt (now (s .entry)) at ⌝ }
 {
-    let geometries = fields::u16_within(s, at + GEOMETRY_COUNT) as u32;
-    let texts = fields::u16_within(s, at + TEXT_COUNT) as u32;
-    let nodes = fields::u16_within(s, at + NODE_COUNT) as u32;
-    let references = fields::u16_within(s, at + REFERENCE_COUNT) as u32;
-    geometries + texts + nodes + references
+    let counts = records::list_counts_within(s, at);
+    counts.geometries as u32 + counts.texts as u32 + counts.nodes as u32 + counts.references as u32
 }
 
 // "0 to 512 value bytes", "1 to 50 points"

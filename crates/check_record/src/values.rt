@@ -15,8 +15,6 @@ use records::format::FLOAT;
 use records::format::REFERENCE_FLAGS;
 use records::format::ROWS;
 use records::format::SOURCE_BOX;
-use records::format::SOURCE_KIND;
-use records::format::SOURCE_NUMBER;
 
 // Where the floats of a box stand behind its first.
 const MIN_Y: usize = FLOAT;
@@ -83,10 +81,8 @@ fn reference_ok(s: &[u8], at: usize) -> bool
     requires { ⌜ at + endOf reference ≤ length (now s) ⌝ }
     ensures { λ r. ⌜ r ≡ referenceOk (now (s .entry)) at ⌝ }
 {
-    let source = source_ok(
-        fields::u16_within(s, at + SOURCE_KIND),
-        fields::u32_within(s, at + SOURCE_NUMBER),
-    );
+    let field = records::source_within(s, at);
+    let source = source_ok(field.kind, field.number);
     let zeros = zero_box(s, at + SOURCE_BOX);
     let columns = fields::u16_within(s, at + COLUMNS);
     let rows = fields::u16_within(s, at + ROWS);

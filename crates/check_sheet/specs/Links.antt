@@ -7,8 +7,9 @@ use mathlib.Core.Bool.{Bool, true, cond}
 use lib.Dec.{ltb, eqb}
 use Rattle.fields.specs.Field.{uintAt}
 use Rattle.walk.specs.Offsets.{kindAt}
-use Rattle.records.specs.Format as field
-use Rattle.records.specs.Format.{numberWidth, reference, cell, endOf, fieldAt}
+use Rattle.records.specs.Format.{numberWidth, cell, endOf}
+use Rattle.records.specs.declared.ListCounts.{ListCounts}
+use Rattle.records.specs.Records.{sourceFieldAt, listCountsAt}
 use Rattle.check_record.specs.Tests.{both, every}
 use Rattle.check_sheet.specs.declared.Counts.{Counts}
 
@@ -20,24 +21,23 @@ sourceNamed kind number c own =
     (cond (eqb kind 3) (ltb number (c .nodes))
     (cond (eqb kind 4) (ltb number own) true)))
 
--- the number of 4 bytes at an offset is below a count
+-- the number of a list at an offset is below a count
 unfoldable pub belowAt : List ℕ → ℕ → ℕ → Bool
-belowAt s count at = ltb (uintAt 4 s at) count
+belowAt s count at = ltb (uintAt numberWidth s at) count
 
--- "every number in a cell": its four lists stand one after the other behind its fields
+-- "every number in a cell", whose lists have so many: its four lists stand one after the other behind its fields
+abbrev pub namedIn : List ℕ → Counts → ℕ → ListCounts → Bool
+namedIn s c at n =
+    both (every (belowAt s (c .geometries)) numberWidth (n .geometries) (at + endOf cell))
+    (both (every (belowAt s (c .texts)) numberWidth (n .texts) (at + endOf cell + numberWidth * n .geometries))
+    (both (every (belowAt s (c .nodes)) numberWidth (n .nodes) (at + endOf cell + numberWidth * (n .geometries + n .texts)))
+    (every (belowAt s (c .references)) numberWidth (n .references) (at + endOf cell + numberWidth * (n .geometries + n .texts + n .nodes)))))
+
 unfoldable pub listsNamed : List ℕ → Counts → ℕ → Bool
-listsNamed s c at =
-    let geometries = fieldAt cell field.geometryCount s at in
-    let texts = fieldAt cell field.textCount s at in
-    let nodes = fieldAt cell field.nodeCount s at in
-    let references = fieldAt cell field.referenceCount s at in
-    both (every (belowAt s (c .geometries)) numberWidth geometries (at + endOf cell))
-    (both (every (belowAt s (c .texts)) numberWidth texts (at + endOf cell + numberWidth * geometries))
-    (both (every (belowAt s (c .nodes)) numberWidth nodes (at + endOf cell + numberWidth * (geometries + texts)))
-    (every (belowAt s (c .references)) numberWidth references (at + endOf cell + numberWidth * (geometries + texts + nodes)))))
+listsNamed s c at = namedIn s c at (listCountsAt s at)
 
 -- own is the number that a reference here has
 unfoldable pub linkOk : List ℕ → Counts → ℕ → ℕ → Bool
 linkOk s c own at =
-    cond (eqb (kindAt s at) 4) (sourceNamed (fieldAt reference field.sourceKind s at) (fieldAt reference field.sourceNumber s at) c own)
+    cond (eqb (kindAt s at) 4) (sourceNamed (sourceFieldAt s at .kind) (sourceFieldAt s at .number) c own)
     (cond (eqb (kindAt s at) 5) (listsNamed s c at) true)

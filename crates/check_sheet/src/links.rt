@@ -16,13 +16,7 @@ use crate::Counts;
 use crate::scan::tally;
 use fields::KIND;
 use records::format::CELL_END;
-use records::format::GEOMETRY_COUNT;
-use records::format::NODE_COUNT;
 use records::format::NUMBER;
-use records::format::REFERENCE_COUNT;
-use records::format::SOURCE_KIND;
-use records::format::SOURCE_NUMBER;
-use records::format::TEXT_COUNT;
 
 // Whether `count` numbers side by side are below a bound.
 fn all_below(s: &[u8], from: usize, count: usize, bound: u32) -> bool
@@ -60,10 +54,11 @@ fn lists_named(s: &[u8], c: Counts, at: usize) -> bool
     requires { ⌜ at + endOf cell + numberWidth * listsAt (now s) at ≤ length (now s) ⌝ }
     ensures { λ r. ⌜ r ≡ listsNamed (now (s .entry)) c at ⌝ }
 {
-    let geometries = fields::u16_within(s, at + GEOMETRY_COUNT) as usize;
-    let texts = fields::u16_within(s, at + TEXT_COUNT) as usize;
-    let nodes = fields::u16_within(s, at + NODE_COUNT) as usize;
-    let references = fields::u16_within(s, at + REFERENCE_COUNT) as usize;
+    let counts = records::list_counts_within(s, at);
+    let geometries = counts.geometries as usize;
+    let texts = counts.texts as usize;
+    let nodes = counts.nodes as usize;
+    let references = counts.references as usize;
     if all_below(s, at + CELL_END, geometries, c.geometries) {
         if all_below(s, at + CELL_END + NUMBER * geometries, texts, c.texts) {
             if all_below(
@@ -96,9 +91,8 @@ fn link_ok(s: &[u8], c: Counts, own: u32, at: usize) -> bool
 {
     let kind = fields::u16_within(s, at + KIND);
     if kind == 4 {
-        let source = fields::u16_within(s, at + SOURCE_KIND);
-        let number = fields::u32_within(s, at + SOURCE_NUMBER);
-        return source_named(source, number, c, own);
+        let source = records::source_within(s, at);
+        return source_named(source.kind, source.number, c, own);
     }
     if kind == 5 {
         return lists_named(s, c, at);

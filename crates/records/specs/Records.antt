@@ -19,6 +19,8 @@ use Rattle.records.specs.declared.PreparedSource.{PreparedSource}
 use Rattle.records.specs.declared.PreparedSource.the-variants.{Geometry, Text, Node, Reference, Cell}
 use Rattle.records.specs.declared.PreparedReference.{PreparedReference}
 use Rattle.records.specs.declared.PreparedCell.{PreparedCell}
+use Rattle.records.specs.declared.SourceField.{SourceField}
+use Rattle.records.specs.declared.ListCounts.{ListCounts}
 
 -- ---- Parts of a body
 
@@ -110,6 +112,20 @@ referenceAt s at =
       grid = gridAt s at;
       source = sourceOf (fieldAt reference field.sourceKind s at) (fieldAt reference field.sourceNumber s at);
       «source_bbox» = boundsAt s (at + offsetIn reference field.box) (bit (fieldAt reference field.flags s at) 1);
+    }
+
+-- "source kind 2, source number 4"
+abbrev pub sourceFieldAt : List ℕ → ℕ → SourceField
+sourceFieldAt s at = record { kind = fieldAt reference field.sourceKind s at; number = fieldAt reference field.sourceNumber s at }
+
+-- a cell's "counts of batches, texts, nodes, references 2 each"
+abbrev pub listCountsAt : List ℕ → ℕ → ListCounts
+listCountsAt s at =
+    record {
+      geometries = fieldAt cell field.geometryCount s at;
+      texts = fieldAt cell field.textCount s at;
+      nodes = fieldAt cell field.nodeCount s at;
+      references = fieldAt cell field.referenceCount s at;
     }
 
 -- 5 cell: "bit 0 box present"

@@ -1,7 +1,10 @@
 // Cells, at a record's offset, and the numbers of their lists, by list place.
 ghost use mathlib.Core.Path.{_≡_};
-ghost use Prim.Native.Nat.{_<_};
-ghost use Rattle.records.specs.Records.{cellAt, textsFrom, nodesFrom, referencesFrom, cellNumberAt, cellGeometryAt, cellTextAt, cellNodeAt, cellReferenceAt};
+ghost use Prim.Native.Nat.{_+_, _≤_, _<_};
+ghost use lib.ListN.{length};
+ghost use Rattle.records.specs.Format.{cell, endOf};
+ghost use Rattle.records.specs.Records.{cellAt, listCountsAt, textsFrom, nodesFrom, referencesFrom, cellNumberAt, cellGeometryAt, cellTextAt, cellNodeAt, cellReferenceAt};
+use crate::ListCounts;
 use crate::PreparedCell;
 use crate::format::CELL_BOX;
 use crate::format::CELL_END;
@@ -27,6 +30,18 @@ pub fn cell_at(s: &[u8], at: usize) -> PreparedCell
         texts: fields::u16_at(body, TEXT_COUNT) as u32,
         nodes: fields::u16_at(body, NODE_COUNT) as u32,
         references: fields::u16_at(body, REFERENCE_COUNT) as u32,
+    }
+}
+
+pub fn list_counts_within(s: &[u8], at: usize) -> ListCounts
+    requires { ⌜ at + endOf cell ≤ length (now s) ⌝ }
+    ensures { λ r. ⌜ r ≡ listCountsAt (now (s .entry)) at ⌝ }
+{
+    ListCounts {
+        geometries: fields::u16_within(s, at + GEOMETRY_COUNT),
+        texts: fields::u16_within(s, at + TEXT_COUNT),
+        nodes: fields::u16_within(s, at + NODE_COUNT),
+        references: fields::u16_within(s, at + REFERENCE_COUNT),
     }
 }
 

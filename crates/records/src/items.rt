@@ -1,10 +1,14 @@
 // Batches, texts, nodes and references, at a record's offset.
 ghost use mathlib.Core.Path.{_≡_};
-ghost use Rattle.records.specs.Records.{geometryAt, textAt, pointsOf, nodeAt, nodePointAt, gridAt, referenceAt};
+ghost use Prim.Native.Nat.{_+_, _≤_};
+ghost use lib.ListN.{length};
+ghost use Rattle.records.specs.Format.{reference, endOf};
+ghost use Rattle.records.specs.Records.{geometryAt, textAt, pointsOf, nodeAt, nodePointAt, gridAt, referenceAt, sourceFieldAt};
 use crate::PreparedGeometry;
 use crate::PreparedNode;
 use crate::PreparedReference;
 use crate::PreparedText;
+use crate::SourceField;
 use crate::format::COLUMNS;
 use crate::format::COS;
 use crate::format::ELEMENT_COUNT;
@@ -121,5 +125,15 @@ pub fn reference_at(s: &[u8], at: usize) -> PreparedReference
             SOURCE_BOX,
             bit(fields::u16_at(body, REFERENCE_FLAGS), 1),
         ),
+    }
+}
+
+pub fn source_within(s: &[u8], at: usize) -> SourceField
+    requires { ⌜ at + endOf reference ≤ length (now s) ⌝ }
+    ensures { λ r. ⌜ r ≡ sourceFieldAt (now (s .entry)) at ⌝ }
+{
+    SourceField {
+        kind: fields::u16_within(s, at + SOURCE_KIND),
+        number: fields::u32_within(s, at + SOURCE_NUMBER),
     }
 }

@@ -1,5 +1,6 @@
 // The records of a sheet: their types, under the Rust's names, and the readers at a record's offset.
-// Every public reader is total: what lies past the end of the bytes is read as zeros.
+// Every public reader is total, what lies past the end of the bytes being read as zeros, but those whose names end in `_within`: these require that the
+// record's fields lie within the bytes, and test nothing.
 use geometry::bbox::Bounds;
 use geometry::bbox::WorldBBox;
 use geometry::grid::Grid;
@@ -15,10 +16,12 @@ pub use cells::cell_geometry_at;
 pub use cells::cell_node_at;
 pub use cells::cell_reference_at;
 pub use cells::cell_text_at;
+pub use cells::list_counts_within;
 pub use items::geometry_at;
 pub use items::node_at;
 pub use items::node_point_at;
 pub use items::reference_at;
+pub use items::source_within;
 pub use items::text_at;
 pub use parts::NO_LABEL;
 pub use parts::label;
@@ -57,6 +60,20 @@ pub struct PreparedReference {
     pub grid: Grid,
     pub source: PreparedSource,
     pub source_bbox: Bounds,
+}
+
+// A reference's source as its record has it: a kind and a number.
+pub struct SourceField {
+    pub kind: u16,
+    pub number: u32,
+}
+
+// How many numbers each list of a cell has, as its record has them.
+pub struct ListCounts {
+    pub geometries: u16,
+    pub texts: u16,
+    pub nodes: u16,
+    pub references: u16,
 }
 
 // A cell, with the length of each of its lists.

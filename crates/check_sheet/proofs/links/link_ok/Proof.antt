@@ -1,13 +1,14 @@
 -- `check_sheet::links::link_ok` meets its contract. A record's length by its kind says that the fields lie within it.
 -- Assumes nothing.
-use mathlib.Core.Path.{_≡_, sym, _∙_}
+use mathlib.Core.Path.{_≡_, sym, ap, _∙_}
 use native.Mathlib.Omega.{arith}
 use denote.Ref.{now}
 use Rattle.walk.specs.Offsets.{lengthAt}
+use Rattle.records.specs.declared.SourceField.{SourceField}
 use Rattle.records.specs.Format.{reference, endOf}
 use Rattle.check_record.proofs.Tests.{tests}
 use Rattle.check_record.proofs.Facts.Lengths.{shape-sized}
-use Rattle.check_sheet.specs.Links.{linkOk}
+use Rattle.check_sheet.specs.Links.{sourceNamed, linkOk}
 use borrow.Author.Needs.{needs}
 use Rattle.check_sheet.proofs.links.link_ok.Statement.{statement}
 use Rattle.check_sheet.proofs.links.link_ok.Tie as tie
@@ -16,15 +17,16 @@ use Rattle.check_sheet.proofs.links.link_ok.Tie as tie
 long : (c : tie.Then1) → lengthAt (now (c .before .before .before .args .s)) (c .before .before .before .args .at) ≡ endOf reference
 long c = shape-sized _ _ (c .before .before .before .pre .shape) .reference (sym (c .before .u16-within .ensures) ∙ c .if1 .taken)
 
-u16-within-requires-2 : tie.Need-u16-within-requires-2
-u16-within-requires-2 c κs = omega (arith, long c, c .before .before .before .pre .whole)
-
-u32-within-requires : tie.Need-u32-within-requires
-u32-within-requires c κs = omega (arith, long (c .before), c .before .before .before .before .pre .whole)
+source-within-requires : tie.Need-source-within-requires
+source-within-requires c κs = omega (arith, long c, c .before .before .before .pre .whole)
 
 returns : tie.Need-returns
 unfolding linkOk
-returns c = search (tests, ← c .before .before .before .before .u16-within .ensures, ← c .before .before .u16-within2 .ensures, ← c .before .u32-within .ensures, c .source-named .ensures)
+returns c =
+    let at-source = c .before in
+    let a = at-source .before .before .before .before .args in
+    let named = c .source-named .ensures ∙ ap (λ (x : SourceField). sourceNamed (x .kind) (x .number) (a .c) (a .own)) (at-source .source-within .ensures) in
+    search (tests, ← at-source .before .before .u16-within .ensures, named)
 
 lists-named-requires : tie.Need-lists-named-requires
 lists-named-requires c κs =
@@ -45,10 +47,7 @@ link-ok-spec =
     (tie.spec
     (λ c. search needs)
     (λ c κs. search needs)
-    (λ c. search needs)
-    u16-within-requires-2
-    (λ c. search needs)
-    u32-within-requires
+    source-within-requires
     (λ c κs. search needs)
     returns
     lists-named-requires
