@@ -325,6 +325,8 @@ def main():
             if open(path, "rb").read() != content:
                 sys.exit(f"{os.path.normpath(path)} is not what this script writes")
         print(f"{len(CASES)} cases as written")
+    elif sys.argv[1:]:
+        sys.exit(__doc__)
     else:
         for path, content in files.items():
             open(path, "wb").write(content)

@@ -10,6 +10,7 @@ use Rattle.walk.specs.Offsets.{kindAt}
 use Rattle.records.specs.Format as field
 use Rattle.records.specs.Format.{f, reference, cell, offsetIn, fieldAt}
 use Rattle.records.specs.Records.{sourceFieldAt}
+use Rattle.records.specs.Sources.{noLabel}
 use Rattle.check_record.specs.Tests.{both}
 
 -- "An absent box is 32 zero bytes."
@@ -18,7 +19,7 @@ zeroBox s at = eqb (uintAt (4 * f) s at) 0
 
 -- "the source kind 1 to 5, and a cell source below FFFFFFFF (hexadecimal)"
 unfoldable pub sourceOk : ℕ → ℕ → Bool
-sourceOk kind number = both (leb 1 kind) (both (leb kind 5) (cond (eqb kind 5) (ltb number 0xffffffff) true))
+sourceOk kind number = both (leb 1 kind) (both (leb kind 5) (cond (eqb kind 5) (ltb number noLabel) true))
 
 -- "Reference flags: bit 0 reflection, bit 1 source box present." The last two say whether the source is right and whether the box is all zero.
 unfoldable pub gridOk : ℕ → ℕ → ℕ → Bool → Bool → Bool

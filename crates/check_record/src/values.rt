@@ -51,7 +51,7 @@ fn source_ok(kind: u16, number: u32) -> bool
         return false;
     }
     if kind == 5 {
-        number < 0xffff_ffff
+        number < records::NO_LABEL
     } else {
         true
     }

@@ -2,6 +2,7 @@
 --     Passes       the two passes over the records, step by step
 --     Answers      each answer by what leads to it, numbers 1 and 7 among them
 --     Verdict      the verdict says all that an answer does
+--     Numbered     a refusal has a number above 0
 --     Valid        the answer is sound just where the sheet is valid
 --     WellFormed   a valid sheet is well formed
 --     Examples     small sheets and their answers, computed
@@ -11,6 +12,7 @@ mod Passed
 pub mod Passes
 pub mod Answers
 pub mod Verdict
+pub mod Numbered
 pub mod Valid
 pub mod WellFormed
 pub mod Examples

@@ -16,6 +16,7 @@ use Rattle.records.specs.declared.PreparedGeometry.{PreparedGeometry}
 use Rattle.records.specs.declared.PreparedText.{PreparedText}
 use Rattle.records.specs.declared.PreparedSource.the-variants.{Reference, Cell}
 use Rattle.records.specs.declared.PreparedReference.{PreparedReference}
+use Rattle.records.specs.Sources.{noLabel}
 use Rattle.abstract_sheet.specs.Sheet.{Sheet, NodeRecord, CellRecord, Kind, kindNumber, item, numbers, source, sheetOf}
 use Rattle.abstract_sheet.specs.Lookup.{Exists}
 use Rattle.check_sheet.specs.Valid.{Valid}
@@ -37,7 +38,7 @@ pub record SourceNamed (t : Sheet) (n : ℕ) (r : PreparedReference) : Type 0 wh
 pub record ReferenceLimits (r : PreparedReference) : Type 0 where
   pub columns : r .grid .columns ≤ 32767
   pub rows : r .grid .rows ≤ 32767
-  pub cell-source : (m : ℕ) → r .source ≡ Cell m → m < 0xffffffff
+  pub cell-source : (m : ℕ) → r .source ≡ Cell m → m < noLabel
 
 -- "1 to 50 points"
 pub record NodeLimits (n : NodeRecord) : Type 0 where

@@ -2,27 +2,23 @@
 -- Assumes nothing.
 use mathlib.Core.Path.{_≡_, refl, sym, ap, subst, _∙_}
 use mathlib.Core.Bool.{Bool, true, false, cond}
-use mathlib.Core.List.{List, [], _∷_, _++_}
+use mathlib.Core.List.{List, [], _++_}
 use Prim.Native.Nat.{ℕ, suc, _≤_}
 use native.Mathlib.Omega.{arith}
 use lib.ListN.{length, drop, replicate}
-use lib.Dec.{leb, eqb}
-use lib.Ieee.Fits.{eq→eqb}
+use lib.Dec.{leb}
 use lib.Dec.{T as Yes}
 use lib.IntN.{pos}
 use lib.Ieee.{fin, lt}
-use Rattle.walk.specs.Find.{countOf}
-use Rattle.walk.specs.Offsets.{offsets}
 use Rattle.abstract_sheet.specs.Sheet.{Sheet, sheetOf}
-use Rattle.check_record.specs.Record.{recordRefusal}
 use Rattle.check_sheet.specs.declared.Counts.{Counts}
 use Rattle.check_sheet.specs.declared.Checked.{Checked}
 use Rattle.check_sheet.specs.declared.Checked.the-variants as checked
 use Rattle.check_sheet.specs.Count.{countsOf}
-use Rattle.check_sheet.specs.Links.{linkOk}
-use Rattle.check_sheet.specs.Check.{firstNo, firstUnnamed, checkSheet}
+use Rattle.check_sheet.specs.Check.{checkSheet}
 use Rattle.check_sheet.specs.Valid.{Valid}
 use Rattle.check_sheet.proofs.Valid.{sound-valid, sound-counts}
+use Rattle.check_sheet.proofs.Numbered.{Numbered, refused, sheet-numbered}
 use Rattle.check_sheet.proofs.WellFormed.Limits.{reference-limits}
 use Rattle.plan_rules.specs.declared.ScenePlan.{ScenePlan}
 use Rattle.plan_rules.specs.declared.Answer.the-variants.{Planned, Refused}
@@ -48,47 +44,6 @@ use Rattle.cover.proofs.Demand3.{demand-3-of-rules}
 
 valid-few : (s : List ℕ) → Valid s → FewMembers (sheetOf s)
 valid-few s valid n r e = let limits = reference-limits s valid n r e in (limits .columns, limits .rows)
-
--- ---- questions 1 to 7: an answer with number 0 is sound
-
-abbrev number : Checked → ℕ
-number (checked.Sound c) = 0
-number (checked.Refused n at) = n
-
-abbrev IsSound : Checked → Type 0
-IsSound x = (c : Counts) × (x ≡ checked.Sound c)
-
--- a refusal's number is not 0
-abbrev Numbered : Checked → Type 0
-Numbered x = number x ≡ 0 → IsSound x
-
-first-no-numbered : (s xs : List ℕ) (later : Checked) → Numbered later → Numbered (firstNo s xs later)
-unfolding firstNo
-first-no-numbered s [] later h = h
-first-no-numbered s (at ∷ xs) later h = by (recordRefusal s at) (eqb (recordRefusal s at) 0) (λ e. eq→eqb {a = recordRefusal s at} {b = 0} e) (first-no-numbered s xs later h)
-  where
-    by : (n : ℕ) (b : Bool) → (n ≡ 0 → Yes b) → Numbered (firstNo s xs later) → Numbered (cond b (firstNo s xs later) (checked.Refused n at))
-    by n true f h = h
-    by n false f h = λ e. absurd (f e)
-
-first-unnamed-numbered : (s : List ℕ) (c : Counts) (own : ℕ) (xs : List ℕ) (later : Checked) → Numbered later → Numbered (firstUnnamed s c own xs later)
-unfolding firstUnnamed
-first-unnamed-numbered s c own [] later h = h
-first-unnamed-numbered s c own (at ∷ xs) later h = by (linkOk s c own at) (first-unnamed-numbered s c _ xs later h)
-  where
-    by : (b : Bool) {x : Checked} → Numbered x → Numbered (cond b x (checked.Refused 6 at))
-    by true h = h
-    by false h = λ e. absurd (let y : ⊥ = omega arith in y)
-
-either-numbered : (b : Bool) (x : Checked) (n : ℕ) → Numbered x → Numbered (cond b x (checked.Refused (suc n) 0))
-either-numbered true x n h = h
-either-numbered false x n h = λ e. absurd (let y : ⊥ = omega arith in y)
-
-sheet-numbered : (s : List ℕ) → Numbered (checkSheet s)
-unfolding checkSheet
-sheet-numbered s =
-    either-numbered (leb (length s) 16777216) _ 0 (first-no-numbered s (offsets s) _
-    (either-numbered (leb (countOf s 5) 4096) _ 6 (first-unnamed-numbered s (countsOf s) 0 (offsets s) (checked.Sound (countsOf s)) (λ e. (countsOf s, refl)))))
 
 -- ---- questions 8 to 12: an outcome with number 0 passed each of them
 
@@ -158,7 +113,7 @@ accepted-call s q o k m e =
   where
     by : (x : Checked) → checkSheet s ≡ x → Numbered x → (checkedOutcome x (sheetOf s) q o k m) .number ≡ 0
         → FewMembers (sheetOf s) × Yes (lt (fin false 0 (pos 0)) (q .zoom)) × (q .depth ≤ maxDepth) × IsTape s q (checkedOutcome x (sheetOf s) q o k m) (eventsOf s q) o
-    by (checked.Refused n at) h f e = absurd (let z : _≡_ {A = ℕ} 0 1 = (let c = (f e) .1 in cc) in let y : ⊥ = omega arith in y)
+    by (checked.Refused n at) h (refused above) e = let none : n ≡ 0 = e in absurd (let y : ⊥ = omega arith in y)
     by (checked.Sound c) h f e =
         let S = sheetOf s in
         let p = sound-passed S (c .cells) q o k m e in

@@ -1,4 +1,4 @@
--- Laws of `uintAt`: a field from its parts, a field past the end, the bound, and what a field's number depends on.
+-- Laws of `uintAt`: a field from its parts, a field past the end, and what a field's number depends on.
 -- Assumes nothing.
 use mathlib.Core.Path.{_≡_, refl, sym, ap, ap₂, _∙_}
 use Prim.Native.Nat.{ℕ, zero, suc, _+_, _*_, _^_, _≤_, _<_}
@@ -29,17 +29,6 @@ pub uintAt-past-end : (k : ℕ) (s : List ℕ) (at : ℕ) → length s ≤ at �
 unfolding uintAt
 uintAt-past-end zero s at h = refl
 uintAt-past-end (suc k) s at h = omega (arith, List·getD-eq-default s 0 h, uintAt-past-end k s (at + 1) (omega arith))
-
--- ---- a field of k bytes is below 256 ^ k
-
--- every element is a byte
-abbrev pub AreBytes : List ℕ → Type 0
-AreBytes s = (i : ℕ) → getD s i 0 < 256
-
-pub uintAt-lt : (k : ℕ) (s : List ℕ) (at : ℕ) → AreBytes s → uintAt k s at < 256 ^ k
-unfolding uintAt
-uintAt-lt zero s at b = zero-lt-suc 0
-uintAt-lt (suc k) s at b = rw (pow-suc 256 k) (omega (arith, b at, uintAt-lt k s (at + 1) b))
 
 -- ---- a field's number is decided by its k bytes
 

@@ -28,7 +28,7 @@ impl Placement {
     };
 
     // The axes alone.
-    pub fn transform_vector2(self, v: DVec2) -> DVec2
+    fn transform_vector2(self, v: DVec2) -> DVec2
         ensures { λ r. ⌜ r ≡ transformVector2 self v ⌝ }
     {
         DVec2 {

@@ -18,7 +18,6 @@ const MAX_TEXT_INSTANCES: u64 = 10_000;
 
 pub const MAX_LOAD_PROXIES: u64 = 100_000;
 
-// "Totals stop at 2^64 - 1."
 pub const MAX_TOTAL: u64 = 0xffff_ffff_ffff_ffff;
 
 // Totals stop at 2^64 - 1: the Rust's `saturating_add`.

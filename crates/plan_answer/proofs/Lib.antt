@@ -1,6 +1,6 @@
 -- Facts about answers.
 --     Outcomes         which answer an outcome tells of
---     Replies           the reply to an input, by code path
+--     Replies          the reply to an input, by code path
 --     Parts            a part of a text
 --     Buffers          buffers of zeros, for programs
 --     WorkedExample    document 01's worked example, from its bytes to its text

@@ -6,19 +6,13 @@ use mathlib.Core.List.{List, [], _∷_}
 use Prim.Native.Nat.{ℕ, zero, suc, _≤_, _<_}
 use native.Mathlib.Omega.{arith}
 use lib.ListN.{length, drop, replicate, length-append}
-use lib.Dec.{leb, eqb}
-use borrow.Author.Tests.{eqb-false}
+use lib.Dec.{leb}
 use Rattle.fields.proofs.Writing.{length-recordBytes}
-use Rattle.walk.specs.Offsets.{kindAt, offsets}
-use Rattle.walk.specs.Find.{countOf}
-use Rattle.check_record.specs.Record.{recordRefusal}
 use Rattle.abstract_sheet.specs.Sheet.{Sheet, sheetOf}
-use Rattle.check_sheet.specs.declared.Counts.{Counts}
 use Rattle.check_sheet.specs.declared.Checked.{Checked}
 use Rattle.check_sheet.specs.declared.Checked.the-variants as checked
-use Rattle.check_sheet.specs.Count.{countsOf, tallied}
-use Rattle.check_sheet.specs.Links.{linkOk}
-use Rattle.check_sheet.specs.Check.{firstNo, firstUnnamed, checkSheet}
+use Rattle.check_sheet.specs.Check.{checkSheet}
+use Rattle.check_sheet.proofs.Numbered.{Numbered, refused, sheet-numbered}
 use Rattle.plan_rules.specs.declared.Answer.the-variants.{Refused}
 use Rattle.plan_rules.specs.declared.ScenePlan.{ScenePlan}
 use Rattle.plan_rules.specs.Event.{Event, fieldsOf, encode, emptyPlan, totals}
@@ -30,36 +24,6 @@ use Rattle.plan_rules.specs.Tape.{noTag, note, tape}
 use Rattle.plan_rules.specs.Questions.{queryRefusal}
 use Rattle.plan_rules.specs.Outcome.{Outcome, outcome, freshPlan, tapeOf, delivered, soundOutcome, checkedOutcome, outcomeOf}
 use Rattle.plan_rules.proofs.OutcomeTheorem.{query-refused, query-passed}
-
--- ---- a sheet's refusal has a number
-
-data Numbered : Checked → Type 0 where
-  sound : {counts : Counts} → Numbered (checked.Sound counts)
-  refused : {number offset : ℕ} → 0 < number → Numbered (checked.Refused number offset)
-
-numbered-if : (b : Bool) {x y : Checked} → Numbered x → (b ≡ false → Numbered y) → Numbered (cond b x y)
-numbered-if true p q = p
-numbered-if false p q = q refl
-
-module _ (s : List ℕ) where
-  first-no : (xs : List ℕ) (later : Checked) → Numbered later → Numbered (firstNo s xs later)
-  unfolding firstNo
-  first-no [] later p = p
-  first-no (at ∷ xs) later p =
-      numbered-if (eqb (recordRefusal s at) 0) (first-no xs later p) (λ e. refused (omega (arith, eqb-false (recordRefusal s at) 0 e)))
-
-  first-unnamed : (c : Counts) (own : ℕ) (xs : List ℕ) (later : Checked) → Numbered later → Numbered (firstUnnamed s c own xs later)
-  unfolding firstUnnamed
-  first-unnamed c own [] later p = p
-  first-unnamed c own (at ∷ xs) later p =
-      numbered-if (linkOk s c own at) (first-unnamed c (tallied own (kindAt s at) 4) xs later p) (λ e. refused (omega arith))
-
-  sheet-numbered : Numbered (checkSheet s)
-  unfolding checkSheet
-  sheet-numbered =
-      numbered-if (leb (length s) 16777216)
-      (first-no (offsets s) _ (numbered-if (leb (countOf s 5) 4096) (first-unnamed (countsOf s) 0 (offsets s) _ sound) (λ e. refused (omega arith))))
-      (λ e. refused (omega arith))
 
 -- ---- a tape is not empty: it ends with its totals
 

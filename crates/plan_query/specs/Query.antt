@@ -9,6 +9,7 @@ use lib.ListN.{length}
 use lib.Seq.{sets}
 use lib.Dec.{leb, eqb}
 use Rattle.fields.specs.Field.{uintAt, f64At}
+use Rattle.fields.specs.Head.{headWidth}
 use Rattle.walk.specs.Offsets.{lengthAt, kindAt}
 use Rattle.plan_rules.specs.declared.SceneOptions.{SceneOptions}
 use Rattle.plan_query.specs.declared.QueryRecord.{QueryRecord}
@@ -33,7 +34,7 @@ wholeQuery s =
 unfoldable pub optionsAt : List ℕ → SceneOptions
 optionsAt s =
     record {
-      root = uintAt 4 s 6;
+      root = uintAt 4 s headWidth;
       depth = uintAt 4 s 10;
       view = record { «min_x» = f64At s 14; «min_y» = f64At s 22; «max_x» = f64At s 30; «max_y» = f64At s 38 };
       zoom = f64At s 46;

@@ -42,14 +42,14 @@ fn is_query(input: &[u8]) -> bool
     if (length - QUERY_LENGTH) % 4 != 0 {
         return false;
     }
-    fields::u16_at(input, 4) == QUERY_KIND
+    fields::u16_at(input, fields::KIND) == QUERY_KIND
 }
 
 fn options_at(input: &[u8]) -> SceneOptions
     ensures { λ r. ⌜ r ≡ optionsAt (now (input .entry)) ⌝ }
 {
     SceneOptions {
-        root: fields::u32_at(input, 6),
+        root: fields::u32_at(input, fields::HEAD),
         depth: fields::u32_at(input, 10),
         view: WorldBBox {
             min_x: fields::f64_at(input, 14),

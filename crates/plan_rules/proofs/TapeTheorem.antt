@@ -16,10 +16,9 @@ use Rattle.fields.proofs.Writing.{sets-append, length-recordBytes}
 use Rattle.abstract_sheet.specs.Sheet.{Sheet}
 use Rattle.plan_rules.specs.declared.ScenePlan.{ScenePlan}
 use Rattle.plan_rules.specs.Limits.{maxTotal}
-use Rattle.plan_rules.specs.Event.{Event, totals, Step, fieldsOf, encode, saturate, _⊞_, emptyPlan, amounts, after}
+use Rattle.plan_rules.specs.Event.{Event, Step, fieldsOf, encode, saturate, _⊞_, emptyPlan, amounts, after}
 use Rattle.plan_rules.specs.World.{Query, World, world}
-use Rattle.plan_rules.specs.Push.{say}
-use Rattle.plan_rules.specs.Plan.{visitRoot, plan}
+use Rattle.plan_rules.specs.Plan.{plan}
 use Rattle.plan_rules.specs.Tape.{putRecord, noTag, onTape, note, tape}
 use Rattle.plan_rules.proofs.Simulation.{Related, the-relation, same-state}
 use Rattle.plan_rules.proofs.Simulation.Premises.{Room, no-premises}
@@ -128,11 +127,6 @@ module _ {P : Type 0} (enter : Step → P → P) (S : Sheet) (cells : ℕ) (q : 
         below-stop (run .state .«tape_end») (length (tape events)) tape-end (omega arith),
         r .written small fits ∙ sets-eq (tape events) o 0 (subst (λ (n : ℕ). n ≤ length o) (sym (zero-add (length (tape events)))) fits) ∙ ap (λ (n : ℕ). tape events ++ drop n o) (zero-add (length (tape events))),
       )
-
-  -- "15 totals, last"
-  pub totals-last : let v = visitRoot enter note S cells q (q .depth) t (world emptyPlan [] k m) in tape events ≡ tape (v .out) ++ encode (totals (v .state))
-  unfolding plan say
-  totals-last = refl
 
   pub same-output-length : length (run .out) ≡ length o
   same-output-length = the-relation (Run o) (one-run {P = P} o enter S cells q t k m) .same-length

@@ -1,5 +1,5 @@
 -- Draw units as bevy_scene.rs has them: a map from a cell and a depth to a count, and a set of the cells being counted.
--- Nothing else here rests on this: proofs/Memory shows that a plan over the lent scratch is a plan over these.
+-- Only `MappedPlan` rests on this: proofs/Memory shows that a plan over the lent scratch is a plan over these.
 -- Definitions only. Assumes nothing.
 use mathlib.Core.Bool.{Bool, true, false, cond, _||_}
 use mathlib.Core.Option.{Option, none, some}

@@ -1,5 +1,5 @@
 -- The rules at the code's end: no tag, bytes on the lent tape, and what a plan is given, by one name.
--- The planner's contracts cite these names: what a call leaves equals the definition of the same name. No crate above names the rules' two ends.
+-- The planner's contracts cite these names: what a call leaves equals the definition of the same name. No crate above applies the rules to `noTag` and `onTape`.
 -- Definitions only; rests on the rules and on what a reference denotes.
 use mathlib.Core.Path.{_≡_}
 use mathlib.Core.Bool.{Bool}
@@ -31,16 +31,16 @@ use Rattle.plan_rules.specs.Outcome as outcome
 abbrev pub fixedQuery : Fixed → List ℕ → Query
 fixedQuery f hidden = queryOf (f .options) hidden (f .«object_limit»)
 
--- besides what goes by value: the sheet and the hidden layers
+-- What a plan is given besides what goes by value (f): the sheet and the hidden layers.
 pub record Given (f : Fixed) : Type 0 where
   pub sheet : Sheet
   pub hidden : List ℕ
 
--- by a sheet's bytes
+-- the same of a sheet's bytes
 abbrev pub givenBytes : (f : Fixed) → List ℕ → List ℕ → Given f
 givenBytes f s hidden = record { sheet = sheetOf s; hidden = hidden }
 
--- as they are lent
+-- the same of the lent bytes and layers
 abbrev pub given : (f : Fixed) → RefT (List ℕ) → RefT (List ℕ) → Given f
 given f sheet hidden = givenBytes f (sheet .now) (hidden .now)
 

@@ -8,6 +8,7 @@ use Prim.Native.Nat.{ℕ, zero, suc, _+_, _/_, _%_}
 use lib.ListN.{length, drop}
 use lib.Dec.{ltb, eqb}
 use Rattle.fields.specs.Field.{uintAt}
+use Rattle.fields.specs.Head.{headWidth}
 use Rattle.walk.specs.Offsets.{lengthAt, kindAt, offsetsFrom}
 use Rattle.records.specs.Sources.{noLabel}
 use Rattle.plan_text.specs.Ascii.{ascii}
@@ -62,19 +63,19 @@ eachField piece (suc n) s at = piece (uintAt 8 s at) ++ eachField piece n s (at 
 -- ---- lines, by the bytes from a record's first on
 
 abbrev pub batchLine : List ℕ → List ℕ
-batchLine s = ascii "batch" ++ number (uintAt 4 s 6) ++ eachField float 6 s 10 ++ ascii "\n"
+batchLine s = ascii "batch" ++ number (uintAt 4 s headWidth) ++ eachField float 6 s 10 ++ ascii "\n"
 
 abbrev pub textLine : List ℕ → List ℕ
-textLine s = ascii "text" ++ number (uintAt 4 s 6) ++ eachField float 2 s 10 ++ ascii "\n"
+textLine s = ascii "text" ++ number (uintAt 4 s headWidth) ++ eachField float 2 s 10 ++ ascii "\n"
 
 abbrev pub pointLine : List ℕ → List ℕ
-pointLine s = ascii "point" ++ number (uintAt 2 s 6) ++ number (uintAt 2 s 8) ++ eachField float 2 s 10 ++ ascii "\n"
+pointLine s = ascii "point" ++ number (uintAt 2 s headWidth) ++ number (uintAt 2 s 8) ++ eachField float 2 s 10 ++ ascii "\n"
 
 abbrev pub proxyLine : List ℕ → List ℕ
-proxyLine s = ascii "proxy" ++ labelText (uintAt 4 s 6) ++ eachField float 4 s 10 ++ ascii "\n"
+proxyLine s = ascii "proxy" ++ labelText (uintAt 4 s headWidth) ++ eachField float 4 s 10 ++ ascii "\n"
 
 abbrev pub totalsLine : List ℕ → List ℕ
-totalsLine s = ascii "totals" ++ eachField number 6 s 6 ++ ascii "\n"
+totalsLine s = ascii "totals" ++ eachField number 6 s headWidth ++ ascii "\n"
 
 -- the line of a record by its kind; no other kind stands on a tape
 unfoldable pub lineOf : List ℕ → List ℕ
@@ -93,7 +94,7 @@ refusedLine refusal offset = ascii "refused" ++ number refusal ++ number offset 
 
 -- where the next record stands; a record that says it is shorter than its head is the last
 unfoldable pub nextRecord : List ℕ → ℕ → ℕ
-nextRecord s at = cond (ltb (lengthAt s at) 6) (length s) (at + lengthAt s at)
+nextRecord s at = cond (ltb (lengthAt s at) headWidth) (length s) (at + lengthAt s at)
 
 -- the lines of the records at some offsets
 unfoldable pub linesAt : List ℕ → List ℕ → List ℕ

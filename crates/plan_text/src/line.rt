@@ -15,7 +15,7 @@ fn put_batch(text: &mut [u8], at: usize, bytes: &[u8]) -> usize
     ensures { λ r. ⌜ Written lineRoom (now (text .entry)) at (batchLine (now (bytes .entry))) (now (text .exit)) r ⌝ }
 {
     let word = put_word(text, at, b"batch");
-    let number = put_number(text, word, fields::u32_at(bytes, 6) as u64);
+    let number = put_number(text, word, fields::u32_at(bytes, fields::HEAD) as u64);
     let floats = put_floats(text, number, bytes, 10, 6);
     put_word(text, floats, b"\n")
 }
@@ -25,7 +25,7 @@ fn put_text(text: &mut [u8], at: usize, bytes: &[u8]) -> usize
     ensures { λ r. ⌜ Written lineRoom (now (text .entry)) at (textLine (now (bytes .entry))) (now (text .exit)) r ⌝ }
 {
     let word = put_word(text, at, b"text");
-    let number = put_number(text, word, fields::u32_at(bytes, 6) as u64);
+    let number = put_number(text, word, fields::u32_at(bytes, fields::HEAD) as u64);
     let floats = put_floats(text, number, bytes, 10, 2);
     put_word(text, floats, b"\n")
 }
@@ -35,7 +35,7 @@ fn put_point(text: &mut [u8], at: usize, bytes: &[u8]) -> usize
     ensures { λ r. ⌜ Written lineRoom (now (text .entry)) at (pointLine (now (bytes .entry))) (now (text .exit)) r ⌝ }
 {
     let word = put_word(text, at, b"point");
-    let layer = put_number(text, word, fields::u16_at(bytes, 6) as u64);
+    let layer = put_number(text, word, fields::u16_at(bytes, fields::HEAD) as u64);
     let node_type = put_number(text, layer, fields::u16_at(bytes, 8) as u64);
     let floats = put_floats(text, node_type, bytes, 10, 2);
     put_word(text, floats, b"\n")
@@ -46,7 +46,7 @@ fn put_proxy(text: &mut [u8], at: usize, bytes: &[u8]) -> usize
     ensures { λ r. ⌜ Written lineRoom (now (text .entry)) at (proxyLine (now (bytes .entry))) (now (text .exit)) r ⌝ }
 {
     let word = put_word(text, at, b"proxy");
-    let label = put_label(text, word, fields::u32_at(bytes, 6));
+    let label = put_label(text, word, fields::u32_at(bytes, fields::HEAD));
     let floats = put_floats(text, label, bytes, 10, 4);
     put_word(text, floats, b"\n")
 }
@@ -56,7 +56,7 @@ fn put_totals(text: &mut [u8], at: usize, bytes: &[u8]) -> usize
     ensures { λ r. ⌜ Written lineRoom (now (text .entry)) at (totalsLine (now (bytes .entry))) (now (text .exit)) r ⌝ }
 {
     let word = put_word(text, at, b"totals");
-    let totals = put_numbers(text, word, bytes, 6, 6);
+    let totals = put_numbers(text, word, bytes, fields::HEAD, 6);
     put_word(text, totals, b"\n")
 }
 
@@ -65,7 +65,7 @@ pub fn put_line(text: &mut [u8], at: usize, bytes: &[u8]) -> usize
     requires { ⌜ at + lineRoom ≤ length (now text) ⌝ }
     ensures { λ r. ⌜ Written lineRoom (now (text .entry)) at (lineOf (now (bytes .entry))) (now (text .exit)) r ⌝ }
 {
-    let kind = fields::u16_at(bytes, 4);
+    let kind = fields::u16_at(bytes, fields::KIND);
     match kind {
         11 => put_batch(text, at, bytes),
         12 => put_text(text, at, bytes),

@@ -21,7 +21,7 @@ fn next_record(tape: &[u8], at: usize) -> usize
     ensures { λ r. ⌜ r ≡ nextRecord (now (tape .entry)) at ⌝ }
 {
     let length = fields::u32_at(tape, at) as usize;
-    if length < 6 {
+    if length < fields::HEAD {
         return tape.len();
     }
     at + length

@@ -23,6 +23,6 @@ pub fn visit_clean(
     let plan = visit_root(sheet, fixed, hidden, out, counts, marks, empty_plan());
     // "It and an accepted plan leave the named scratch places zero."
     scratch::clear_counts(counts);
-    scratch::clear_bytes(marks); // the marks again
+    scratch::clear_bytes(marks);
     plan
 }

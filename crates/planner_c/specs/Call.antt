@@ -20,5 +20,5 @@ queryFrom root depth minX minY maxX maxY zoom hidden =
     }
 
 -- the number that the call returns, the offset and the tape's length that it stores, and the lent places after it
-abbrev pub given : ℕ → ℕ → ℕ → List ℕ → List ℕ → List ℕ → Outcome
-given number offset length o k m = record { number = number; offset = offset; tapeLength = length; out = o; counts = k; marks = m }
+abbrev pub returned : ℕ → ℕ → ℕ → List ℕ → List ℕ → List ℕ → Outcome
+returned number offset length o k m = record { number = number; offset = offset; tapeLength = length; out = o; counts = k; marks = m }

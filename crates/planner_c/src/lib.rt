@@ -5,7 +5,7 @@ use plan_rules::Answer;
 use plan_rules::SceneOptions;
 ghost use mathlib.Core.Path.{_≡_};
 ghost use Rattle.plan_rules.specs.Outcome.{outcomeOf};
-ghost use Rattle.planner_c.specs.Call.{given, queryFrom};
+ghost use Rattle.planner_c.specs.Call.{returned, queryFrom};
 
 // The number of the first no, with its offset, or 0 with the tape's length.
 #[no_mangle]
@@ -25,7 +25,7 @@ pub extern "C" fn scene_plan(
     offset: &mut usize,
     length: &mut usize,
 ) -> u32
-    ensures { λ r. ⌜ given r (now (offset .exit)) (now (length .exit)) (now (out .exit)) (now (counts .exit)) (now (marks .exit)) ≡ outcomeOf (now (sheet .entry)) (queryFrom root depth «min_x» «min_y» «max_x» «max_y» zoom (now (hidden .entry))) (now (out .entry)) (now (counts .entry)) (now (marks .entry)) ⌝ }
+    ensures { λ r. ⌜ returned r (now (offset .exit)) (now (length .exit)) (now (out .exit)) (now (counts .exit)) (now (marks .exit)) ≡ outcomeOf (now (sheet .entry)) (queryFrom root depth «min_x» «min_y» «max_x» «max_y» zoom (now (hidden .entry))) (now (out .entry)) (now (counts .entry)) (now (marks .entry)) ⌝ }
 {
     let view = WorldBBox {
         min_x,

@@ -118,7 +118,7 @@ referenceAt s at =
 abbrev pub sourceFieldAt : List ℕ → ℕ → SourceField
 sourceFieldAt s at = record { kind = fieldAt reference field.sourceKind s at; number = fieldAt reference field.sourceNumber s at }
 
--- a cell's "counts of batches, texts, nodes, references 2 each"
+-- 5 cell: "counts of batches, texts, nodes, references 2 each"
 abbrev pub listCountsAt : List ℕ → ℕ → ListCounts
 listCountsAt s at =
     record {
@@ -128,27 +128,27 @@ listCountsAt s at =
       references = fieldAt cell field.referenceCount s at;
     }
 
--- 5 cell: "bit 0 box present"
+-- "bit 0 box present"
 unfoldable pub cellAt : List ℕ → ℕ → PreparedCell
 cellAt s at =
     record {
       «direct_draw_units» = fieldAt cell field.drawUnits s at;
       bbox = boundsAt s (at + offsetIn cell field.box) (bit (fieldAt cell field.flags s at) 0);
-      geometries = fieldAt cell field.geometryCount s at;
-      texts = fieldAt cell field.textCount s at;
-      nodes = fieldAt cell field.nodeCount s at;
-      references = fieldAt cell field.referenceCount s at;
+      geometries = listCountsAt s at .geometries;
+      texts = listCountsAt s at .texts;
+      nodes = listCountsAt s at .nodes;
+      references = listCountsAt s at .references;
     }
 
 -- where the texts, the nodes and the references start among the numbers of a cell: the four lists stand one after the other
 unfoldable pub textsFrom : List ℕ → ℕ → ℕ
-textsFrom s at = fieldAt cell field.geometryCount s at
+textsFrom s at = listCountsAt s at .geometries
 
 unfoldable pub nodesFrom : List ℕ → ℕ → ℕ
-nodesFrom s at = textsFrom s at + fieldAt cell field.textCount s at
+nodesFrom s at = textsFrom s at + listCountsAt s at .texts
 
 unfoldable pub referencesFrom : List ℕ → ℕ → ℕ
-referencesFrom s at = nodesFrom s at + fieldAt cell field.nodeCount s at
+referencesFrom s at = nodesFrom s at + listCountsAt s at .nodes
 
 -- the number at a place among the numbers of a cell, "4 each"
 unfoldable pub cellNumberAt : List ℕ → ℕ → ℕ → ℕ

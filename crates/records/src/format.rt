@@ -11,29 +11,29 @@ pub const POINT: usize = 2 * FLOAT;
 pub const BOX: usize = 4 * FLOAT;
 
 // 1 batch
-pub const GEOMETRY_LAYER: usize = HEAD;
+pub(crate) const GEOMETRY_LAYER: usize = HEAD;
 
-pub const GEOMETRY_DATA_TYPE: usize = GEOMETRY_LAYER + 2;
+pub(crate) const GEOMETRY_DATA_TYPE: usize = GEOMETRY_LAYER + 2;
 
-pub const ELEMENT_COUNT: usize = GEOMETRY_DATA_TYPE + 2;
+pub(crate) const ELEMENT_COUNT: usize = GEOMETRY_DATA_TYPE + 2;
 
 pub const GEOMETRY_BOX: usize = ELEMENT_COUNT + 4;
 
 pub const GEOMETRY_END: usize = GEOMETRY_BOX + BOX;
 
 // 2 text; its value bytes follow
-pub const TEXT_LAYER: usize = HEAD;
+pub(crate) const TEXT_LAYER: usize = HEAD;
 
-pub const TEXT_DATA_TYPE: usize = TEXT_LAYER + 2;
+pub(crate) const TEXT_DATA_TYPE: usize = TEXT_LAYER + 2;
 
-pub const TEXT_ORIGIN: usize = TEXT_DATA_TYPE + 2;
+pub(crate) const TEXT_ORIGIN: usize = TEXT_DATA_TYPE + 2;
 
 pub const TEXT_END: usize = TEXT_ORIGIN + POINT;
 
 // 3 node; its points follow
-pub const NODE_LAYER: usize = HEAD;
+pub(crate) const NODE_LAYER: usize = HEAD;
 
-pub const NODE_TYPE: usize = NODE_LAYER + 2;
+pub(crate) const NODE_TYPE: usize = NODE_LAYER + 2;
 
 pub const NODE_END: usize = NODE_TYPE + 2;
 
@@ -44,21 +44,21 @@ pub const ROWS: usize = COLUMNS + 2;
 
 pub const REFERENCE_FLAGS: usize = ROWS + 2;
 
-pub const SOURCE_KIND: usize = REFERENCE_FLAGS + 2;
+pub(crate) const SOURCE_KIND: usize = REFERENCE_FLAGS + 2;
 
-pub const SOURCE_NUMBER: usize = SOURCE_KIND + 2;
+pub(crate) const SOURCE_NUMBER: usize = SOURCE_KIND + 2;
 
 pub const REFERENCE_ORIGIN: usize = SOURCE_NUMBER + 4;
 
-pub const SPACING_X: usize = REFERENCE_ORIGIN + POINT;
+pub(crate) const SPACING_X: usize = REFERENCE_ORIGIN + POINT;
 
-pub const SPACING_Y: usize = SPACING_X + POINT;
+pub(crate) const SPACING_Y: usize = SPACING_X + POINT;
 
-pub const MAGNIFICATION: usize = SPACING_Y + POINT;
+pub(crate) const MAGNIFICATION: usize = SPACING_Y + POINT;
 
-pub const COS: usize = MAGNIFICATION + FLOAT;
+pub(crate) const COS: usize = MAGNIFICATION + FLOAT;
 
-pub const SIN: usize = COS + FLOAT;
+pub(crate) const SIN: usize = COS + FLOAT;
 
 pub const SOURCE_BOX: usize = SIN + FLOAT;
 
@@ -69,16 +69,16 @@ pub const NUMBER: usize = 4;
 
 pub const CELL_FLAGS: usize = HEAD;
 
-pub const DRAW_UNITS: usize = CELL_FLAGS + 2;
+pub(crate) const DRAW_UNITS: usize = CELL_FLAGS + 2;
 
 pub const CELL_BOX: usize = DRAW_UNITS + 8;
 
-pub const GEOMETRY_COUNT: usize = CELL_BOX + BOX;
+pub(crate) const GEOMETRY_COUNT: usize = CELL_BOX + BOX;
 
-pub const TEXT_COUNT: usize = GEOMETRY_COUNT + 2;
+pub(crate) const TEXT_COUNT: usize = GEOMETRY_COUNT + 2;
 
-pub const NODE_COUNT: usize = TEXT_COUNT + 2;
+pub(crate) const NODE_COUNT: usize = TEXT_COUNT + 2;
 
-pub const REFERENCE_COUNT: usize = NODE_COUNT + 2;
+pub(crate) const REFERENCE_COUNT: usize = NODE_COUNT + 2;
 
 pub const CELL_END: usize = REFERENCE_COUNT + 2;

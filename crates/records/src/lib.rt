@@ -1,6 +1,6 @@
 // The records of a sheet: their types, under the Rust's names, and the readers at a record's offset.
-// Every public reader is total, what lies past the end of the bytes being read as zeros, but those whose names end in `_within`: these require that the
-// record's fields lie within the bytes, and test nothing.
+// A reader whose name ends in `_within` requires that the record's fields lie within the bytes, and tests nothing.
+// The others are total: what lies past the end of the bytes is read as zeros.
 use geometry::bbox::Bounds;
 use geometry::bbox::WorldBBox;
 use geometry::grid::Grid;

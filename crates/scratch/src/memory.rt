@@ -58,8 +58,8 @@ pub fn cache_insert(
     cell: u32,
     count: u64,
 )
-    ensures { λ _. ⌜ (now (marks .exit) ≡ set (now (marks .entry)) (rememberedPlace cells depth cell) 1)
-        × (now (counts .exit) ≡ set (now (counts .entry)) (countPlace cells depth cell) count) ⌝ }
+    ensures { λ _. ⌜ (now (counts .exit) ≡ set (now (counts .entry)) (countPlace cells depth cell) count)
+        × (now (marks .exit) ≡ set (now (marks .entry)) (rememberedPlace cells depth cell) 1) ⌝ }
 {
     set_mark(marks, remembered_place(cells, depth, cell), 1);
     set_count(counts, count_place(cells, depth, cell), count);

@@ -44,8 +44,8 @@ fn put_batch(out: &mut [u8], at: usize, number: u32, placement: Placement)
     ensures { λ _. ⌜ now (out .exit) ≡ sets (now (out .entry)) at (recordBytes (fieldsOf (batch number placement))) ⌝ }
 {
     fields::put_u32(out, at, BATCH_SIZE);
-    fields::put_u16(out, at + 4, 11);
-    fields::put_u32(out, at + 6, number);
+    fields::put_u16(out, at + fields::KIND, 11);
+    fields::put_u32(out, at + fields::HEAD, number);
     fields::put_f64(out, at + 10, placement.xx);
     fields::put_f64(out, at + 18, placement.xy);
     fields::put_f64(out, at + 26, placement.yx);
@@ -71,8 +71,8 @@ fn put_text(out: &mut [u8], at: usize, number: u32, position: DVec2)
     ensures { λ _. ⌜ now (out .exit) ≡ sets (now (out .entry)) at (recordBytes (fieldsOf (text number position))) ⌝ }
 {
     fields::put_u32(out, at, TEXT_SIZE);
-    fields::put_u16(out, at + 4, 12);
-    fields::put_u32(out, at + 6, number);
+    fields::put_u16(out, at + fields::KIND, 12);
+    fields::put_u32(out, at + fields::HEAD, number);
     fields::put_f64(out, at + 10, position.x);
     fields::put_f64(out, at + 18, position.y);
 }
@@ -94,8 +94,8 @@ fn put_point(out: &mut [u8], at: usize, layer: u32, node_type: u32, position: DV
     ensures { λ _. ⌜ now (out .exit) ≡ sets (now (out .entry)) at (recordBytes (fieldsOf (point layer «node_type» position))) ⌝ }
 {
     fields::put_u32(out, at, POINT_SIZE);
-    fields::put_u16(out, at + 4, 13);
-    fields::put_u16(out, at + 6, (layer % 0x1_0000) as u16);
+    fields::put_u16(out, at + fields::KIND, 13);
+    fields::put_u16(out, at + fields::HEAD, (layer % 0x1_0000) as u16);
     fields::put_u16(out, at + 8, (node_type % 0x1_0000) as u16);
     fields::put_f64(out, at + 10, position.x);
     fields::put_f64(out, at + 18, position.y);
@@ -118,8 +118,8 @@ fn put_proxy(out: &mut [u8], at: usize, label: u32, bbox: WorldBBox)
     ensures { λ _. ⌜ now (out .exit) ≡ sets (now (out .entry)) at (recordBytes (proxyFields label bbox)) ⌝ }
 {
     fields::put_u32(out, at, PROXY_SIZE);
-    fields::put_u16(out, at + 4, 14);
-    fields::put_u32(out, at + 6, label);
+    fields::put_u16(out, at + fields::KIND, 14);
+    fields::put_u32(out, at + fields::HEAD, label);
     fields::put_f64(out, at + 10, bbox.min_x);
     fields::put_f64(out, at + 18, bbox.min_y);
     fields::put_f64(out, at + 26, bbox.max_x);
@@ -143,8 +143,8 @@ fn put_totals(out: &mut [u8], at: usize, plan: ScenePlan)
     ensures { λ _. ⌜ now (out .exit) ≡ sets (now (out .entry)) at (recordBytes (fieldsOf (totals plan))) ⌝ }
 {
     fields::put_u32(out, at, TOTALS_SIZE);
-    fields::put_u16(out, at + 4, 15);
-    fields::put_u64(out, at + 6, plan.detail_cells);
+    fields::put_u16(out, at + fields::KIND, 15);
+    fields::put_u64(out, at + fields::HEAD, plan.detail_cells);
     fields::put_u64(out, at + 14, plan.detail_objects);
     fields::put_u64(out, at + 22, plan.culled_references);
     fields::put_u64(out, at + 30, plan.skipped_subpixel_references);

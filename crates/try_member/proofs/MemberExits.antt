@@ -1,6 +1,6 @@
 -- One member of a reference: its column and row lie within the grid, and the ways out of `try_member`, one law for each, by what its calls answer.
 -- Assumes nothing.
-use mathlib.Core.Path.{_≡_, sym, ap, _∙_}
+use mathlib.Core.Path.{_≡_, ap, _∙_}
 use mathlib.Core.Bool.{Bool, true, false}
 use mathlib.Core.List.{List}
 use Prim.Native.Nat.{ℕ, zero, suc, _*_, _/_, _%_, _<_}
@@ -23,7 +23,6 @@ use Rattle.plan_rules.specs.World.{detailBudgetExhausted, Flow, go, halt}
 use Rattle.plan_rules.specs.Visit as visit
 use Rattle.plan_rules.specs.Visit.{collapseReason}
 use Rattle.plan_rules.specs.OnTape.{Given, Output, query, say, addLoad, haltWithMember, VisitSource, memberStep}
-use Rattle.plan_rules.proofs.Paths.References.{member-exhausted, member-culled, member-skipped, member-collapsed}
 
 -- ---- where member i stands
 
@@ -66,41 +65,27 @@ module _ {f : Fixed} (g : Given f) (on : VisitSource g) (d : ℕ) (r : PreparedR
   testOf b = collapseTest (sizeOf b .width) (sizeOf b .height) 1 units d false
 
   pub try-exhausted : detailBudgetExhausted (query g) (w .state) ≡ true → (v : Output) → v ≡ addLoad reason.OtherLimit l worldBox w → halt v ≡ step
-  try-exhausted e v loaded =
-      ap halt (loaded ∙ ap (λ (n : ℕ). addLoad reason.OtherLimit n worldBox w) (known .labelled))
-      ∙ sym (member-exhausted g on d r p sourceBox worldBox units column row w e)
+  unfolding visit.memberStep
+  try-exhausted e v loaded = ap halt (loaded ∙ ap (λ (n : ℕ). addLoad reason.OtherLimit n worldBox w) (known .labelled)) ∙ (rw e)
 
   module _ (room : detailBudgetExhausted (query g) (w .state) ≡ false) where
     pub try-culled : overlaps box (f .options .view) ≡ false → (v : Output) → v ≡ say culledReference w → go v ≡ step
-    try-culled e v said =
-        ap go said
-        ∙ sym (member-culled g on d r p sourceBox worldBox units column row w room (sym (ap (λ (b : WorldBBox). overlaps b (f .options .view)) (known .boxed)) ∙ e))
+    unfolding visit.memberStep
+    try-culled e v said = ap go said ∙ (rw (room, ← known .boxed, e))
 
     module _ (seen : overlaps box (f .options .view) ≡ true) where
-      member-seen : overlaps (memberBox r p sourceBox column row) (f .options .view) ≡ true
-      member-seen = sym (ap (λ (b : WorldBBox). overlaps b (f .options .view)) (known .boxed)) ∙ seen
-
       -- the tape does not show which member was skipped
       pub try-skipped : isSubpixel (sizeOf box) ≡ true → (v : Output) → ((degenerate : Bool) (b : WorldBBox) → v ≡ say (skippedMember degenerate b) w) → go v ≡ step
+      unfolding visit.memberStep
       try-skipped e v said =
-          ap go (said (sourceIsDegenerate sourceBox) (memberBox r p sourceBox column row))
-          ∙ sym (member-skipped g on d r p sourceBox worldBox units column row w room member-seen (sym (ap (λ (b : WorldBBox). isSubpixel (sizeOf b)) (known .boxed)) ∙ e))
+          ap go (said (sourceIsDegenerate sourceBox) box) ∙ (rw (room, ← known .boxed, seen, e))
 
       module _ (large : isSubpixel (sizeOf box) ≡ false) where
-        member-large : isSubpixel (sizeOf (memberBox r p sourceBox column row)) ≡ false
-        member-large = sym (ap (λ (b : WorldBBox). isSubpixel (sizeOf b)) (known .boxed)) ∙ large
-
-        member-collapses : {z : Bool} → collapses (testOf box) ≡ z → collapses (testOf (memberBox r p sourceBox column row)) ≡ z
-        member-collapses e = sym (ap (λ (b : WorldBBox). collapses (testOf b)) (known .boxed)) ∙ e
-
         pub try-collapsed : collapses (testOf box) ≡ true → (v : Output) → v ≡ addLoad (collapseReason (testOf box)) l box w → go v ≡ step
-        try-collapsed e v loaded =
-            ap go (loaded
-            ∙ ap (λ (n : ℕ). addLoad (collapseReason (testOf box)) n box w) (known .labelled)
-            ∙ ap (λ (b : WorldBBox). addLoad (collapseReason (testOf b)) (label (r .source)) b w) (known .boxed))
-            ∙ sym (member-collapsed g on d r p sourceBox worldBox units column row w room member-seen member-large (member-collapses e))
+        unfolding visit.memberStep
+        try-collapsed e v loaded = ap go (loaded ∙ ap (λ (n : ℕ). addLoad (collapseReason (testOf box)) n box w) (known .labelled)) ∙ (rw (room, ← known .boxed, seen, large, e))
 
         -- the source is left to be visited
         pub try-opens : collapses (testOf box) ≡ false → haltWithMember (label (r .source)) box (on tt (r .source) placement w) ≡ step
         unfolding visit.memberStep
-        try-opens e = rw (room, member-seen, member-large, member-collapses e, known .boxed, known .at)
+        try-opens e = rw (room, ← known .boxed, seen, large, e, known .at)

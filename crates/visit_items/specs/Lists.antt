@@ -34,7 +34,7 @@ module _ {f : Fixed} (g : Given f) (c : OpenCell) (x : CellRecord) where
   abbrev pub visitLists : VisitReference g → Output → Output
   visitLists on w = ending (cellBody g (c .number) x (c .transform) (c .bounds) on w)
 
--- what `push_items` promises: whatever the way to visit on and the scratch, its references visited are its lists
+-- what `push_items` promises: whatever the way to visit on and the scratch, its references, visited, leave what all its lists leave
 abbrev pub LeavesReferences : RefT (List ℕ) → Fixed → RefT (List ℕ) → OpenCell → Listed → RefT (List ℕ) → ScenePlan → RefT (List ℕ) → Type 0
 LeavesReferences sheet f hidden c r out plan outBefore =
     (on : VisitReference (given f sheet hidden)) (k m : List ℕ)

@@ -10,7 +10,7 @@ use lib.ListN.{set}
 use borrow.Author.Tests.{not-true, not-false}
 use Rattle.geometry.specs.declared.placement.Placement.{Placement}
 use Rattle.walk.specs.declared.Found.the-variants.{At, Nothing}
-use Rattle.walk.specs.Find.{find}
+use Rattle.look_up.specs.Look.{look}
 use Rattle.records.specs.declared.PreparedSource.{PreparedSource}
 use Rattle.records.specs.declared.PreparedSource.the-variants.{Geometry, Text, Node, Reference, Cell}
 use Rattle.records.specs.declared.PreparedCell.{PreparedCell}
@@ -61,11 +61,11 @@ module _ (s : List ℕ) (f : Fixed) (hidden : List ℕ) (depth : ℕ) where
     abbrev visited : Output
     visited = visitCell g depth cell p w
 
-    pub cell-missing : find s 5 cell ≡ Nothing → w ≡ visited
+    pub cell-missing : look s 5 cell ≡ Nothing → w ≡ visited
     cell-missing e = sym (Paths.cell-missing g depth cell p w (item-read cells s cell e))
 
     -- the cell is found at an offset, and its record is read
-    module _ (at : ℕ) (found : find s 5 cell ≡ At at) (record₁ : PreparedCell) (read : record₁ ≡ cellAt s at) (r : Entered) (w₁ : Output)
+    module _ (at : ℕ) (found : look s 5 cell ≡ At at) (record₁ : PreparedCell) (read : record₁ ≡ cellAt s at) (r : Entered) (w₁ : Output)
         (entered : leftOfCell g (onReference g depth) cell (cellRecordWith s at record₁) p r w₁ ≡ foundCell g (onReference g depth) cell (cellRecordWith s at record₁) p w) where
       found-visited : leftOfCell g (onReference g depth) cell (cellRecordWith s at record₁) p r w₁ ≡ visited
       unfolding rules.visitCell cellRecordAt

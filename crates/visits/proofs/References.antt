@@ -16,7 +16,7 @@ use Rattle.geometry.specs.Bbox.{sourceIsDegenerate}
 use Rattle.geometry.specs.Grid.{gridCount}
 use Rattle.geometry.specs.Screen.{referenceScreenSize, collapseTest, collapses}
 use Rattle.walk.specs.declared.Found.the-variants.{At, Nothing}
-use Rattle.walk.specs.Find.{find}
+use Rattle.look_up.specs.Look.{look}
 use Rattle.records.specs.declared.PreparedReference.{PreparedReference}
 use Rattle.records.specs.Records.{referenceAt}
 use Rattle.records.specs.Sources.{label}
@@ -74,10 +74,10 @@ module _ (s : List ℕ) (f : Fixed) (hidden : List ℕ) (depth number : ℕ) (tr
   abbrev g : Given f
   g = givenBytes f s hidden
 
-  pub missing : find s 4 number ≡ Nothing → w ≡ visitReference g depth number transform w
+  pub missing : look s 4 number ≡ Nothing → w ≡ visitReference g depth number transform w
   missing e = sym (Paths.reference-missing g depth number transform w (item-read references s number e))
 
-  pub found : (at : ℕ) → find s 4 number ≡ At at → (r : PreparedReference) → r ≡ referenceAt s at
+  pub found : (at : ℕ) → look s 4 number ≡ At at → (r : PreparedReference) → r ≡ referenceAt s at
       → visitSourcedReference g (onSourceBelow g depth) depth r transform (r .«source_bbox») w ≡ visitReference g depth number transform w
   unfolding rules.visitFoundReference
   found at e r read =

@@ -1,11 +1,11 @@
 -- From question 4: what columns, rows, flags, sources and absent boxes are in a reference that passes it.
 -- Assumes nothing.
 use mathlib.Core.Path.{_≡_, sym, ap, _∙_}
-use Prim.Native.Nat.{ℕ, zero, suc, _+_, _*_, _/_, _%_, _^_, _≤_, _<_}
+use Prim.Native.Nat.{ℕ, zero, suc, _+_, _*_, _^_, _≤_, _<_}
 use native.Mathlib.Nat.{mul-pos, zero-lt-suc}
 use native.Mathlib.Omega.{arith}
 use mathlib.Core.List.{List}
-use mathlib.Core.Bool.{Bool, true, false, cond}
+use mathlib.Core.Bool.{Bool, true}
 use lib.Dec.{eqb, eqb·suc-zero}
 use borrow.Author.Tests.{ltb-true, leb-true, eq-eqb, ne-eqb}
 use Rattle.fields.specs.Field.{uintAt}
@@ -40,18 +40,13 @@ zero-box-fields s at =
 
 -- ---- A reference's numbers
 
-present-or : (b c : Bool) → cond b true c ≡ true → b ≡ false → c ≡ true
-present-or b c e f = rw f at e
-
 -- what question 4 says of a reference
 pub record GridOk (columns rows flags kind number : ℕ) (zeros : Bool) : Type 0 where
   pub columns-most : columns ≤ 32767
   pub rows-most : rows ≤ 32767
-  pub spare-bits : flags < 4
   pub source-least : 1 ≤ kind
   pub source-most : kind ≤ 5
   pub cell-source : kind ≡ 5 → number < 0xffffffff
-  pub absent-box : (flags / 2 % 2 ≡ 1 → ⊥) → zeros ≡ true
 
 grid-ok : (columns rows flags kind number : ℕ) (zeros : Bool) → gridOk columns rows flags (sourceOk kind number) zeros ≡ true → GridOk columns rows flags kind number zeros
 unfolding gridOk sourceOk
@@ -64,11 +59,9 @@ grid-ok columns rows flags kind number zeros e =
     record {
       columns-most = leb-true _ _ (both-first _ _ e);
       rows-most = leb-true _ _ (both-first _ _ after-columns);
-      spare-bits = ltb-true _ _ (both-first _ _ after-rows);
       source-least = leb-true _ _ (both-first _ _ source);
       source-most = leb-true _ _ (both-first _ _ after-least);
       cell-source = λ k. ltb-true _ _ (rw k at (both-second _ _ after-least));
-      absent-box = λ k. present-or _ _ (both-second _ _ after-flags) (ne-eqb _ _ k);
     }
 
 pub reference-values : (s : List ℕ) (at : ℕ) → valuesOk s at ≡ true → kindAt s at ≡ 4

@@ -1,29 +1,18 @@
--- `visit_reference` by code path, and one turn of its loops, at the code's end of the rules.
+-- `visit_reference` by code path, at the code's end of the rules.
 -- Assumes nothing.
 use mathlib.Core.Path.{_≡_, refl, ap, _∙_}
 use mathlib.Core.Bool.{true, false}
-use mathlib.Core.List.{List}
 use mathlib.Core.Option.{Option, none}
 use Prim.Native.Nat.{ℕ, zero, suc, _-_, _<_}
 use native.Mathlib.Omega.{arith}
 use lib.Dec.{leb}
 use lib.Ieee.{Float}
-use Rattle.geometry.specs.declared.bbox.WorldBBox.{WorldBBox}
 use Rattle.geometry.specs.declared.placement.Placement.{Placement}
-use Rattle.geometry.specs.declared.screen.ScreenSize.{ScreenSize}
-use Rattle.geometry.specs.Placement.{_·_}
-use Rattle.geometry.specs.Bbox.{transformBbox, overlaps, sourceIsDegenerate}
-use Rattle.geometry.specs.Grid.{gridMemberTransform}
-use Rattle.geometry.specs.Screen.{referenceScreenSize, isSubpixel, collapseTest, collapses}
+use Rattle.geometry.specs.Screen.{collapseTest, collapses}
 use Rattle.records.specs.declared.PreparedReference.{PreparedReference}
-use Rattle.records.specs.Sources.{label}
 use Rattle.plan_rules.specs.declared.Fixed.{Fixed}
-use Rattle.plan_rules.specs.declared.Reason.the-variants as reason
-use Rattle.plan_rules.specs.Event.{skippedMember, culledReference}
-use Rattle.plan_rules.specs.World.{detailBudgetExhausted, Flow, go, halt}
 use Rattle.plan_rules.specs.Visit as visit
-use Rattle.plan_rules.specs.Visit.{collapseReason}
-use Rattle.plan_rules.specs.OnTape.{Given, Output, query, say, addLoad, VisitSource, memberStep, visitFoundReference, onSource, onSourceBelow, visitReference}
+use Rattle.plan_rules.specs.OnTape.{Given, Output, visitFoundReference, onSource, onSourceBelow, visitReference}
 
 -- At a depth of at most 1 every reference that is in view collapses, so how its source would be visited is not asked. The Rust's `depth.saturating_sub(1)`,
 -- which stays at 0 there, and the rules' structural step so come to the same.
@@ -51,35 +40,3 @@ module _ {f : Fixed} (g : Given f) where
     pub reference-missing : g .sheet .reference n ≡ none → visitReference g d n p w ≡ w
     unfolding visit.visitFoundReference
     reference-missing e = reference-is ∙ ap (λ (o : Option PreparedReference). visitFoundReference g (onSourceBelow g d) d p o w) e
-
-  -- ---- one member
-
-  module _ (on : VisitSource g) (d : ℕ) (r : PreparedReference) (p : Placement) (sourceBox worldBox : WorldBBox) (units column row : ℕ) (w : Output) where
-    abbrev memberBox : WorldBBox
-    memberBox = transformBbox (p · gridMemberTransform (r .grid) column row) sourceBox
-
-    abbrev memberSize : ScreenSize
-    memberSize = referenceScreenSize memberBox (f .options .zoom) (sourceIsDegenerate sourceBox)
-
-    abbrev step : Flow (List ℕ)
-    step = memberStep g on d r p sourceBox worldBox units column row w
-
-    pub member-exhausted : detailBudgetExhausted (query g) (w .state) ≡ true → step ≡ halt (addLoad reason.OtherLimit (label (r .source)) worldBox w)
-    unfolding visit.memberStep
-    member-exhausted a = rw a
-
-    module _ (room : detailBudgetExhausted (query g) (w .state) ≡ false) where
-      pub member-culled : overlaps memberBox (f .options .view) ≡ false → step ≡ go (say culledReference w)
-      unfolding visit.memberStep
-      member-culled b = rw (room, b)
-
-      module _ (seen : overlaps memberBox (f .options .view) ≡ true) where
-        pub member-skipped : isSubpixel memberSize ≡ true → step ≡ go (say (skippedMember (sourceIsDegenerate sourceBox) memberBox) w)
-        unfolding visit.memberStep
-        member-skipped c = rw (room, seen, c)
-
-        module _ (large : isSubpixel memberSize ≡ false) where
-          pub member-collapsed : collapses (collapseTest (memberSize .width) (memberSize .height) 1 units d false) ≡ true
-              → step ≡ go (addLoad (collapseReason (collapseTest (memberSize .width) (memberSize .height) 1 units d false)) (label (r .source)) memberBox w)
-          unfolding visit.memberStep
-          member-collapsed e = rw (room, seen, large, e)

@@ -6,7 +6,7 @@ use Rattle.scratch.proofs.memory.cache_insert.Tie as tie
 returns : tie.Need-returns
 returns c =
     let marked = c .before .before .before .before .before .before .before in
-    (rw (← marked .before .remembered-place .ensures) (marked .set-mark .ensures), rw (← c .before .before .before .count-place .ensures) (c .before .before .set-count .ensures))
+    (rw (← c .before .before .before .count-place .ensures) (c .before .before .set-count .ensures), rw (← marked .before .remembered-place .ensures) (marked .set-mark .ensures))
 
 pub cache-insert-spec : {M : Type 1} → statement M
 cache-insert-spec = tie.close (tie.spec (λ c κs. search needs) (λ c κs. search needs) (λ c κs. search needs) (λ c κs. search needs) (λ c. search needs) (λ c. search needs) returns)

@@ -106,4 +106,4 @@ module _ (t : ℕ) where
       (after-stack-insert .stack-insert .last .0) (after-loop .loop .marks) (after-stack-remove .stack-remove .last .0) (after-cache-insert .cache-insert .last .1 .0) (after-loop .loop .counts) (after-cache-insert .cache-insert .last .0)
       (sym (after-stack-contains .stack-contains .ensures) ∙ after-if3 .if3 .left) (after-stack-insert .stack-insert .ensures) (after-cell-at .cell-at .ensures)
       (after-loop .loop .inv .3 ∙ fold-done _ _ (after-loop .loop .i) _ (after-loop-test .loop-test .left))
-      (after-stack-remove .stack-remove .ensures) (after-cache-insert .cache-insert .ensures .0) (after-cache-insert .cache-insert .ensures .1)
+      (after-stack-remove .stack-remove .ensures) (after-cache-insert .cache-insert .ensures .1) (after-cache-insert .cache-insert .ensures .0)
