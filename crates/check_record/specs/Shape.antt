@@ -5,7 +5,7 @@ use mathlib.Core.List.{List}
 use mathlib.Core.Bool.{Bool, false, cond}
 use lib.Dec.{leb, eqb}
 use Rattle.walk.specs.Offsets.{lengthAt, kindAt}
-use Rattle.records.specs.Format.{f, numberWidth, geometry, text, node, reference, cell, endOf}
+use Rattle.records.specs.Format.{f, numberWidth, geometry, text, node, reference, cell, endOf, maxValueBytes, maxPoints}
 use Rattle.records.specs.Records.{listCountsAt}
 use Rattle.check_record.specs.Tests.{both}
 
@@ -18,8 +18,8 @@ listsAt s at = let n = listCountsAt s at in n .geometries + n .texts + n .nodes 
 unfoldable pub lengthOk : ℕ → ℕ → Bool
 lengthOk kind n =
     cond (eqb kind 1) (eqb n (endOf geometry))
-    (cond (eqb kind 2) (both (leb (endOf text) n) (leb n (endOf text + 512)))
-    (cond (eqb kind 3) (both (leb (endOf node + 2 * f * 1) n) (both (leb n (endOf node + 2 * f * 50)) (eqb ((n - endOf node) % (2 * f)) 0)))
+    (cond (eqb kind 2) (both (leb (endOf text) n) (leb n (endOf text + maxValueBytes)))
+    (cond (eqb kind 3) (both (leb (endOf node + 2 * f * 1) n) (both (leb n (endOf node + 2 * f * maxPoints)) (eqb ((n - endOf node) % (2 * f)) 0)))
     (cond (eqb kind 4) (eqb n (endOf reference)) false)))
 
 -- with a cell's 56 + 4n

@@ -8,7 +8,7 @@ use lib.Dec.{ltb, leb, eqb}
 use Rattle.fields.specs.Field.{uintAt}
 use Rattle.walk.specs.Offsets.{kindAt}
 use Rattle.records.specs.Format as field
-use Rattle.records.specs.Format.{f, reference, cell, offsetIn, fieldAt}
+use Rattle.records.specs.Format.{f, reference, cell, offsetIn, fieldAt, maxGridSide}
 use Rattle.records.specs.Records.{sourceFieldAt}
 use Rattle.records.specs.Sources.{noLabel}
 use Rattle.check_record.specs.Tests.{both}
@@ -24,8 +24,8 @@ sourceOk kind number = both (leb 1 kind) (both (leb kind 5) (cond (eqb kind 5) (
 -- "Reference flags: bit 0 reflection, bit 1 source box present." The last two say whether the source is right and whether the box is all zero.
 unfoldable pub gridOk : ℕ → ℕ → ℕ → Bool → Bool → Bool
 gridOk columns rows flags source zeros =
-    both (leb columns 32767)
-    (both (leb rows 32767)
+    both (leb columns maxGridSide)
+    (both (leb rows maxGridSide)
     (both (ltb flags 4)
     (both source (cond (eqb (flags / 2 % 2) 1) true zeros))))
 

@@ -8,6 +8,8 @@ ghost use Rattle.check_record.specs.Shape.{listsAt, lengthOk, shapeOk};
 use fields::KIND;
 use records::format::CELL_END;
 use records::format::GEOMETRY_END;
+use records::format::MAX_POINTS;
+use records::format::MAX_VALUE_BYTES;
 use records::format::NODE_END;
 use records::format::NUMBER;
 use records::format::POINT;
@@ -24,11 +26,11 @@ fn lists_at(s: &[u8], at: usize) -> u32
 }
 
 // "0 to 512 value bytes", "1 to 50 points"
-const TEXT_MOST: usize = TEXT_END + 512;
+const TEXT_MOST: usize = TEXT_END + MAX_VALUE_BYTES;
 
 const NODE_LEAST: usize = NODE_END + POINT;
 
-const NODE_MOST: usize = NODE_END + 50 * POINT;
+const NODE_MOST: usize = NODE_END + MAX_POINTS * POINT;
 
 // Whether the length n is right for a kind other than a cell's.
 fn length_ok(kind: u16, n: usize) -> bool

@@ -12,6 +12,7 @@ use records::format::CELL_BOX;
 use records::format::CELL_FLAGS;
 use records::format::COLUMNS;
 use records::format::FLOAT;
+use records::format::MAX_GRID_SIDE;
 use records::format::REFERENCE_FLAGS;
 use records::format::ROWS;
 use records::format::SOURCE_BOX;
@@ -61,10 +62,10 @@ fn source_ok(kind: u16, number: u32) -> bool
 fn grid_ok(columns: u16, rows: u16, flags: u16, source: bool, zeros: bool) -> bool
     ensures { λ r. ⌜ r ≡ gridOk columns rows flags source zeros ⌝ }
 {
-    if 32767 < columns {
+    if MAX_GRID_SIDE < columns {
         return false;
     }
-    if 32767 < rows {
+    if MAX_GRID_SIDE < rows {
         return false;
     }
     if 4 <= flags {

@@ -10,6 +10,7 @@ use lib.Dec.{leb, eqb}
 use borrow.Author.Tests.{eqb-false}
 use Rattle.walk.specs.Offsets.{kindAt, offsets}
 use Rattle.walk.specs.Find.{countOf}
+use Rattle.records.specs.Format.{maxSheetBytes, maxCells}
 use Rattle.check_record.specs.Record.{recordRefusal}
 use Rattle.check_sheet.specs.declared.Counts.{Counts}
 use Rattle.check_sheet.specs.declared.Checked.{Checked}
@@ -42,6 +43,6 @@ module _ (s : List ℕ) where
   pub sheet-numbered : Numbered (checkSheet s)
   unfolding checkSheet
   sheet-numbered =
-      numbered-if (leb (length s) 16777216)
-      (first-no (offsets s) _ (numbered-if (leb (countOf s 5) 4096) (first-unnamed (countsOf s) 0 (offsets s) _ sound) (λ e. refused (omega arith))))
+      numbered-if (leb (length s) maxSheetBytes)
+      (first-no (offsets s) _ (numbered-if (leb (countOf s 5) maxCells) (first-unnamed (countsOf s) 0 (offsets s) _ sound) (λ e. refused (omega arith))))
       (λ e. refused (omega arith))

@@ -8,6 +8,7 @@ use lib.ListN.{length}
 use lib.Dec.{leb, eqb}
 use Rattle.walk.specs.Offsets.{kindAt, offsets}
 use Rattle.walk.specs.Find.{countOf}
+use Rattle.records.specs.Format.{maxSheetBytes, maxCells}
 use Rattle.check_record.specs.Record.{recordRefusal}
 use Rattle.check_sheet.specs.declared.Counts.{Counts}
 use Rattle.check_sheet.specs.declared.Checked.{Checked}
@@ -28,9 +29,9 @@ firstUnnamed s c own (at ∷ xs) later = cond (linkOk s c own at) (firstUnnamed 
 -- Question 1, "Is the sheet at most 16,777,216 bytes?"; then 2 to 5; then question 6, "Are there at most 4,096 cells?"; then question 7.
 unfoldable pub checkSheet : List ℕ → Checked
 checkSheet s =
-    cond (leb (length s) 16777216)
+    cond (leb (length s) maxSheetBytes)
     (firstNo s (offsets s)
-    (cond (leb (countOf s 5) 4096)
+    (cond (leb (countOf s 5) maxCells)
     (firstUnnamed s (countsOf s) 0 (offsets s)
     (Sound (countsOf s)))
     (Refused 7 0)))

@@ -8,6 +8,7 @@ use lib.ListN.{length}
 use Rattle.walk.specs.Offsets.{kindAt, offsets}
 use Rattle.walk.specs.Find.{countOf}
 use Rattle.walk.specs.Every.{All}
+use Rattle.records.specs.Format.{maxSheetBytes, maxCells}
 use Rattle.check_record.specs.Record.{Right}
 use Rattle.check_sheet.specs.declared.Counts.{Counts}
 use Rattle.check_sheet.specs.Count.{countsOf, tallied}
@@ -20,10 +21,10 @@ AllNamed s c own (at ∷ xs) = (linkOk s c own at ≡ true) × AllNamed s c (tal
 
 pub record Valid (s : List ℕ) : Type 0 where
   -- question 1
-  pub short : length s ≤ 16777216
+  pub short : length s ≤ maxSheetBytes
   -- questions 2 to 5 of every record
   pub records : All (Right s) (offsets s)
   -- question 6
-  pub few-cells : countOf s 5 ≤ 4096
+  pub few-cells : countOf s 5 ≤ maxCells
   -- question 7 of every record
   pub named : AllNamed s (countsOf s) 0 (offsets s)

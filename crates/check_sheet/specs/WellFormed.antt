@@ -11,12 +11,13 @@ use Rattle.geometry.specs.declared.placement.DVec2.{DVec2}
 use Rattle.geometry.specs.declared.bbox.WorldBBox.{WorldBBox}
 use Rattle.geometry.specs.declared.bbox.Bounds.{Bounds}
 use Rattle.geometry.specs.declared.bbox.Bounds.the-variants.{Absent, Box}
-use Rattle.geometry.specs.declared.grid.Grid.{Grid}
+use Rattle.grid.specs.declared.Grid.{Grid}
 use Rattle.records.specs.declared.PreparedGeometry.{PreparedGeometry}
 use Rattle.records.specs.declared.PreparedText.{PreparedText}
 use Rattle.records.specs.declared.PreparedSource.the-variants.{Reference, Cell}
 use Rattle.records.specs.declared.PreparedReference.{PreparedReference}
 use Rattle.records.specs.Sources.{noLabel}
+use Rattle.records.specs.Format.{maxGridSide, maxPoints, maxCells}
 use Rattle.abstract_sheet.specs.Sheet.{Sheet, NodeRecord, CellRecord, Kind, kindNumber, item, numbers, source, sheetOf}
 use Rattle.abstract_sheet.specs.Lookup.{Exists}
 use Rattle.check_sheet.specs.Valid.{Valid}
@@ -36,14 +37,14 @@ pub record SourceNamed (t : Sheet) (n : ℕ) (r : PreparedReference) : Type 0 wh
 
 -- "columns and rows at most 32,767", "a cell source below FFFFFFFF (hexadecimal)"
 pub record ReferenceLimits (r : PreparedReference) : Type 0 where
-  pub columns : r .grid .columns ≤ 32767
-  pub rows : r .grid .rows ≤ 32767
+  pub columns : r .grid .columns ≤ maxGridSide
+  pub rows : r .grid .rows ≤ maxGridSide
   pub cell-source : (m : ℕ) → r .source ≡ Cell m → m < noLabel
 
 -- "1 to 50 points"
 pub record NodeLimits (n : NodeRecord) : Type 0 where
   pub least : 1 ≤ n .count
-  pub most : n .count ≤ 50
+  pub most : n .count ≤ maxPoints
 
 -- ---- Question 5: "Is every float finite?"
 
@@ -78,7 +79,7 @@ pub record WellFormed (t : Sheet) : Type 0 where
   pub cell-named : (n : ℕ) (c : CellRecord) → t .cell n ≡ some c → CellNamed t c
   pub source-named : (n : ℕ) (r : PreparedReference) → t .reference n ≡ some r → SourceNamed t n r
   -- "at most 4,096 cells"
-  pub few-cells : (n : ℕ) (c : CellRecord) → t .cell n ≡ some c → n < 4096
+  pub few-cells : (n : ℕ) (c : CellRecord) → t .cell n ≡ some c → n < maxCells
   pub reference-limits : (n : ℕ) (r : PreparedReference) → t .reference n ≡ some r → ReferenceLimits r
   pub node-limits : (n : ℕ) (d : NodeRecord) → t .node n ≡ some d → NodeLimits d
   pub geometry-finite : (n : ℕ) (g : PreparedGeometry) → t .geometry n ≡ some g → FiniteBBox (g .bbox)

@@ -1,6 +1,8 @@
 // Whether a sheet can be planned: questions 1 to 7 of document 01. Nothing is written.
 ghost use mathlib.Core.Path.{_≡_};
 ghost use Rattle.check_sheet.specs.Check.{verdict, verdictOf};
+use records::format::MAX_CELLS;
+use records::format::MAX_SHEET_BYTES;
 
 mod links;
 mod scan;
@@ -24,13 +26,13 @@ pub enum Checked {
 pub fn check_sheet(s: &[u8]) -> Checked
     ensures { λ r. ⌜ verdict r ≡ verdictOf (now (s .entry)) ⌝ }
 {
-    if 16777216 < s.len() {
+    if MAX_SHEET_BYTES < s.len() {
         return Checked::Refused(1, 0);
     }
     match scan::scan(s) {
         Checked::Refused(number, at) => Checked::Refused(number, at),
         Checked::Sound(counts) => {
-            if 4096 < counts.cells {
+            if MAX_CELLS < counts.cells {
                 return Checked::Refused(7, 0);
             }
             links::links(s, counts)

@@ -4,7 +4,7 @@ ghost use Prim.Native.Nat.{_+_, _*_, _≤_};
 ghost use lib.ListN.{length};
 ghost use Rattle.walk.specs.Offsets.{offsets};
 ghost use Rattle.walk.specs.Every.{All};
-ghost use Rattle.records.specs.Format.{numberWidth, cell, endOf};
+ghost use Rattle.records.specs.Format.{numberWidth, cell, endOf, maxSheetBytes};
 ghost use Rattle.check_record.specs.Tests.{every};
 ghost use Rattle.check_record.specs.Shape.{listsAt};
 ghost use Rattle.check_record.specs.Record.{Right};
@@ -102,7 +102,7 @@ fn link_ok(s: &[u8], c: Counts, own: u32, at: usize) -> bool
 
 // The first record that names what is missing, or the counts of a sound sheet.
 pub fn links(s: &[u8], c: Counts) -> Checked
-    requires { ⌜ length (now s) ≤ 16777216 ⌝ }
+    requires { ⌜ length (now s) ≤ maxSheetBytes ⌝ }
     requires { ⌜ All (Right (now s)) (offsets (now s)) ⌝ }
     ensures { λ r. ⌜ r ≡ firstUnnamed (now (s .entry)) c 0 (offsets (now (s .entry))) (Sound c) ⌝ }
 {

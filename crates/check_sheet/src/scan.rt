@@ -3,6 +3,7 @@ ghost use mathlib.Core.Path.{_≡_};
 ghost use Prim.Native.Nat.{_≤_, _<_};
 ghost use lib.ListN.{length};
 ghost use Rattle.walk.specs.Offsets.{offsets};
+ghost use Rattle.records.specs.Format.{maxSheetBytes};
 ghost use Rattle.check_sheet.specs.declared.Checked.the-variants.{Sound};
 ghost use Rattle.check_sheet.specs.Count.{countsOf, tallied, counted, AtMost};
 ghost use Rattle.check_sheet.specs.Check.{firstNo};
@@ -20,7 +21,7 @@ pub fn tally(n: u32, kind: u16, k: u16) -> u32
 
 // The counts, with a record of a kind.
 pub fn count(kind: u16, c: Counts) -> Counts
-    requires { ⌜ AtMost c 16777216 ⌝ }
+    requires { ⌜ AtMost c maxSheetBytes ⌝ }
     ensures { λ r. ⌜ r ≡ counted kind c ⌝ }
 {
     Counts {
@@ -34,7 +35,7 @@ pub fn count(kind: u16, c: Counts) -> Counts
 
 // The first record with a no, or the counts.
 pub fn scan(s: &[u8]) -> Checked
-    requires { ⌜ length (now s) ≤ 16777216 ⌝ }
+    requires { ⌜ length (now s) ≤ maxSheetBytes ⌝ }
     ensures { λ r. ⌜ r ≡ firstNo (now (s .entry)) (offsets (now (s .entry))) (Sound (countsOf (now (s .entry)))) ⌝ }
 {
     let mut at = 0;

@@ -11,8 +11,8 @@ use Rattle.geometry.specs.declared.placement.Placement.{Placement}
 use Rattle.geometry.specs.declared.bbox.WorldBBox.{WorldBBox}
 use Rattle.geometry.specs.Placement.{transformPoint2, _·_}
 use Rattle.geometry.specs.Bbox.{boxed, transformBbox, sourceIsDegenerate}
-use Rattle.geometry.specs.Grid.{gridMemberTransform}
-use Rattle.geometry.specs.Screen.{screenSize, referenceScreenSize, isSubpixel}
+use Rattle.grid.specs.Grid.{gridMemberTransform}
+use Rattle.screen.specs.Screen.{screenSize, referenceScreenSize, isSubpixel}
 use Rattle.records.specs.declared.PreparedSource.{PreparedSource}
 use Rattle.records.specs.declared.PreparedSource.the-variants.{Geometry, Text, Node, Reference, Cell}
 use Rattle.records.specs.declared.PreparedGeometry.{PreparedGeometry}

@@ -8,11 +8,11 @@ use lib.Ieee.{Float}
 use Rattle.geometry.specs.declared.placement.DVec2.{DVec2}
 use Rattle.geometry.specs.declared.placement.Placement.{Placement}
 use Rattle.geometry.specs.declared.bbox.WorldBBox.{WorldBBox}
-use Rattle.geometry.specs.declared.grid.Grid.{Grid}
+use Rattle.grid.specs.declared.Grid.{Grid}
 use Rattle.geometry.specs.Placement.{transformPoint2, _·_}
 use Rattle.geometry.specs.Bbox.{transformBbox}
-use Rattle.geometry.specs.Grid.{gridMemberTransform, cornersBbox}
-use Rattle.geometry.specs.Screen.{screenSize, referenceScreenSize, isSubpixel}
+use Rattle.grid.specs.Grid.{gridMemberTransform, cornersBbox}
+use Rattle.screen.specs.Screen.{screenSize, referenceScreenSize, isSubpixel}
 use Rattle.exact.specs.Placement.{ExactPlacement, move, _∘_, IsVector, IsPlacement, vectorOf, AtLevel, deepestLevel}
 use Rattle.exact.specs.Member.{memberPlacement, IsGrid, gridOf}
 use Rattle.exact.specs.Box.{SidesWithin, IsBox, boxOf, place, referenceBox}

@@ -32,7 +32,7 @@ use Rattle.cover.specs.Path.{Path, Item, aBatch, aText, aPoint, memberAt
 use Rattle.cover.specs.View.{textPosition, WithinBox, InView}
 use Rattle.cover.specs.Trace.{Trace, events, All, and-then, Any, here, before, text-record}
 use Rattle.geometry.specs.Bbox.{sourceIsDegenerate}
-use Rattle.geometry.specs.Screen.{screenSize}
+use Rattle.screen.specs.Screen.{screenSize}
 use Rattle.cover.specs.Covered.{UnderOnePixel, Lists, lists-batch, lists-text, lists-point, IsSkip, batch-skip, Skipped, skipped-member, skipped-batch, BareNodeGrid, bare-node-grid, MeetsLimit, meets-limit, Covers, Covered, listed, within-proxy, within-dropped-proxy, in-skipped, follows}
 use Rattle.cover.specs.Demand3.{LosesNothing, eventsOf, IsTape}
 use Rattle.cover.proofs.Examples.Boxes.{whole-same, box, box-holds, withoutTotals}

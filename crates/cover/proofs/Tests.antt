@@ -6,9 +6,9 @@ use Prim.Native.Nat.{ℕ, _<_}
 use lib.Dec.{leb, eqb, eqb→eq, nleb→lt}
 use lib.Dec.{T as Yes}
 use lib.Ieee.{Float}
-use Rattle.geometry.specs.declared.screen.CollapseTest.{CollapseTest}
-use Rattle.geometry.specs.declared.screen.CollapseTest.the-variants as test
-use Rattle.geometry.specs.Screen.{collapseTest, collapses}
+use Rattle.screen.specs.declared.CollapseTest.{CollapseTest}
+use Rattle.screen.specs.declared.CollapseTest.the-variants as test
+use Rattle.screen.specs.Screen.{collapseTest, collapses}
 use Rattle.plan_rules.specs.World.{contains}
 use Rattle.cover.specs.View.{Lacks}
 

@@ -11,9 +11,9 @@ use lib.Dec.{T as Yes}
 use Rattle.geometry.specs.declared.placement.DVec2.{DVec2}
 use Rattle.geometry.specs.declared.placement.Placement.{Placement}
 use Rattle.geometry.specs.declared.bbox.WorldBBox.{WorldBBox}
-use Rattle.geometry.specs.declared.screen.ScreenSize.{ScreenSize}
+use Rattle.screen.specs.declared.ScreenSize.{ScreenSize}
 use Rattle.geometry.specs.Bbox.{boxed, sourceIsDegenerate}
-use Rattle.geometry.specs.Screen.{screenSize, referenceScreenSize}
+use Rattle.screen.specs.Screen.{screenSize, referenceScreenSize}
 use Rattle.records.specs.declared.PreparedSource.the-variants.{Geometry, Node, Reference}
 use Rattle.records.specs.declared.PreparedGeometry.{PreparedGeometry}
 use Rattle.records.specs.declared.PreparedText.{PreparedText}

@@ -33,19 +33,19 @@ pub fn enter_cell(
     }
     let cells = fixed.counts.cells;
     if limits::detail_cells_full(plan) {
-        let boxed = pushes::add_load_if_boxed(out, plan, Reason::CellLimit, cell, bounds);
+        let boxed = events::add_load_if_boxed(out, plan, Reason::CellLimit, cell, bounds);
         return over(boxed, bounds);
     }
     if limits::detail_budget_exhausted(fixed, plan) {
-        let boxed = pushes::add_load_if_boxed(out, plan, Reason::OtherLimit, cell, bounds);
+        let boxed = events::add_load_if_boxed(out, plan, Reason::OtherLimit, cell, bounds);
         return over(boxed, bounds);
     }
     if scratch::stack_contains(marks, cells, scratch::CELL_STACK, cell) {
-        let boxed = pushes::add_load_if_boxed(out, plan, Reason::Circle, cell, bounds);
+        let boxed = events::add_load_if_boxed(out, plan, Reason::Circle, cell, bounds);
         return over(boxed, bounds);
     }
     scratch::stack_insert(marks, cells, scratch::CELL_STACK, cell);
-    let opened = pushes::count_detail_cell(plan);
+    let opened = events::count_detail_cell(plan);
     Entered {
         plan: opened,
         goes: true,

@@ -9,11 +9,11 @@ use native.Mathlib.Omega.{arith}
 use lib.IntN.{pos}
 use lib.Ieee.{Float, fin, binary64, neg, add, ofInt}
 use Rattle.geometry.specs.declared.placement.DVec2.{DVec2}
-use Rattle.geometry.specs.declared.grid.Grid.{Grid}
+use Rattle.grid.specs.declared.Grid.{Grid}
 use Rattle.geometry.specs.Placement.{vec, fromCols, zeroFloat, oneFloat, transformPoint2, _·_}
 use Rattle.geometry.specs.Bbox.{bbox, boxed}
-use Rattle.geometry.proofs.Opened.{opened}
-use Rattle.geometry.specs.Grid.{gridMemberTransform, referenceBbox}
+use Rattle.grid.proofs.Opened.{opened}
+use Rattle.grid.specs.Grid.{gridMemberTransform, referenceBbox}
 use Rattle.exact.specs.Integer.{integer}
 use Rattle.exact.specs.IsInteger.{IsInteger, exactUpTo}
 use Rattle.exact.specs.Placement.{Vector, _≐ᵛ_, IsPlacement}

@@ -4,9 +4,9 @@ use mathlib.Core.Bool.{Bool, cond}
 use mathlib.Core.List.{List, [], _∷_}
 use Prim.Native.Nat.{ℕ, _^_, _<_}
 use Rattle.geometry.specs.declared.placement.DVec2.{DVec2}
-use Rattle.geometry.specs.declared.grid.Grid.{Grid}
+use Rattle.grid.specs.declared.Grid.{Grid}
 use Rattle.geometry.specs.Placement.{transformPoint2}
-use Rattle.geometry.specs.Grid.{gridMemberTransform}
+use Rattle.grid.specs.Grid.{gridMemberTransform}
 use Rattle.exact.specs.Integer.{Integer, integer, _⊗_, negate}
 use Rattle.exact.specs.Placement.{Vector, _⊹_, _≐ᵛ_, VectorWithin, ExactPlacement, move, IsVector}
 use Rattle.exact.specs.Member.{Rotation, degrees0, degrees90, degrees180, degrees270, IntegerGrid, memberOffset, memberPlacement, IsGrid}

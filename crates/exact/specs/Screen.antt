@@ -7,8 +7,8 @@ use lib.IntN.{pos}
 use lib.Ieee.{Float, fin, lt, le}
 use Rattle.floats.specs.Order.{isFinite}
 use Rattle.geometry.specs.declared.bbox.WorldBBox.{WorldBBox}
-use Rattle.geometry.specs.declared.screen.ScreenSize.{ScreenSize}
-use Rattle.geometry.specs.Screen.{onePx, referenceScreenSize}
+use Rattle.screen.specs.declared.ScreenSize.{ScreenSize}
+use Rattle.screen.specs.Screen.{onePx, referenceScreenSize}
 use Rattle.exact.specs.Box.{IntegerBox, IsBox, SidesWithin}
 
 -- zoom above 0 and up to 2 ^ 64

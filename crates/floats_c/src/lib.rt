@@ -1,17 +1,17 @@
-// The fused operation and the two conversions for C and Rust to call, under the contracts of `floats`.
-// `bench/floats` measures them and compares them with the hardware.
+// The fused operation and the two conversions for C and Rust to call, under the contracts of `fused`
+// and `rounding`. `bench/floats` measures them and compares them with the hardware.
 ghost use mathlib.Core.Path.{_≡_};
 ghost use lib.IntN.{pos};
 ghost use lib.Ieee.{binary32, binary64, ofInt};
-ghost use Rattle.floats.specs.Fma.{fma};
-ghost use Rattle.floats.specs.Narrow.{narrow};
+ghost use Rattle.fused.specs.Fma.{fma};
+ghost use Rattle.rounding.specs.Narrow.{narrow};
 
 // x * y + z, rounded once.
 #[no_mangle]
 pub extern "C" fn floats_mul_add(x: f64, y: f64, z: f64) -> f64
     ensures { λ r. ⌜ r ≡ fma binary64 x y z ⌝ }
 {
-    floats::fused::mul_add(x, y, z)
+    fused::mul_add(x, y, z)
 }
 
 // x as the nearest f32.
@@ -19,7 +19,7 @@ pub extern "C" fn floats_mul_add(x: f64, y: f64, z: f64) -> f64
 pub extern "C" fn floats_f64_to_f32(x: f64) -> f32
     ensures { λ r. ⌜ r ≡ narrow x ⌝ }
 {
-    floats::convert::f64_to_f32(x)
+    rounding::f64_to_f32(x)
 }
 
 // The count n as the nearest f32.
@@ -27,5 +27,5 @@ pub extern "C" fn floats_f64_to_f32(x: f64) -> f32
 pub extern "C" fn floats_u64_to_f32(n: u64) -> f32
     ensures { λ r. ⌜ r ≡ ofInt binary32 (pos n) ⌝ }
 {
-    floats::convert::u64_to_f32(n)
+    rounding::u64_to_f32(n)
 }

@@ -67,13 +67,13 @@ pub(crate) fn unread(before: Tally) -> Tally {
 // The pattern that the operation gives on the operands' patterns. What each call gives is its contract.
 fn computed(operation: Operation, x: u64, y: u64, z: u64) -> u64 {
     match operation {
-        Operation::Fused => f64_to_bits(floats::fused::mul_add(
+        Operation::Fused => f64_to_bits(fused::mul_add(
             f64_from_bits(x),
             f64_from_bits(y),
             f64_from_bits(z),
         )),
-        Operation::Narrow => f32_to_bits(floats::convert::f64_to_f32(f64_from_bits(x))),
-        Operation::Count => f32_to_bits(floats::convert::u64_to_f32(x)),
+        Operation::Narrow => f32_to_bits(rounding::f64_to_f32(f64_from_bits(x))),
+        Operation::Count => f32_to_bits(rounding::u64_to_f32(x)),
         Operation::Least => f64_to_bits(floats::order::f64_min(f64_from_bits(x), f64_from_bits(y))),
         Operation::Greatest => f64_to_bits(floats::order::f64_max(
             f64_from_bits(x),

@@ -1,6 +1,7 @@
-// Replays vectors on the crate `floats`: published ones, document 01's edge cases, and patterns whose
-// answers the hardware gave. Each group is a file of data/, named with its origin in its first line. The
-// program says for each group, and in all, how many cases passed and how many failed.
+// Replays vectors on the crates `floats`, `rounding` and `fused`: published ones, document 01's edge
+// cases, and patterns whose answers the hardware gave. Each group is a file of data/, named with its
+// origin in its first line. The program says for each group, and in all, how many cases passed and how
+// many failed.
 mod cases;
 mod single;
 mod text;

@@ -40,7 +40,7 @@ impl WorldBBox {
     }
 
     // Passes over a NaN; of equal values the first, sign of zero included.
-    pub(crate) fn merge(self, other: WorldBBox) -> WorldBBox
+    pub fn merge(self, other: WorldBBox) -> WorldBBox
         ensures { λ r. ⌜ r ≡ merge self other ⌝ }
     {
         WorldBBox {

@@ -9,7 +9,7 @@ use Rattle.geometry.specs.declared.bbox.Bounds.{Bounds}
 use Rattle.geometry.specs.declared.bbox.Bounds.the-variants.{Absent, Box}
 use Rattle.geometry.specs.declared.placement.Placement.{Placement}
 use Rattle.geometry.specs.Bbox.{bbox, transformBbox, overlaps}
-use Rattle.geometry.specs.Grid.{referenceBbox}
+use Rattle.grid.specs.Grid.{referenceBbox}
 use Rattle.records.specs.declared.PreparedReference.{PreparedReference}
 use Rattle.records.specs.Sources.{label}
 use Rattle.plan_rules.specs.declared.Fixed.{Fixed}

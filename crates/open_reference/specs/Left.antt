@@ -7,9 +7,9 @@ use Prim.Native.Nat.{ℕ}
 use denote.Ref.{RefT}
 use Rattle.geometry.specs.declared.bbox.WorldBBox.{WorldBBox}
 use Rattle.geometry.specs.declared.placement.Placement.{Placement}
-use Rattle.geometry.specs.declared.screen.CollapseTest.{CollapseTest}
+use Rattle.screen.specs.declared.CollapseTest.{CollapseTest}
 use Rattle.geometry.specs.Bbox.{sourceIsDegenerate}
-use Rattle.geometry.specs.Screen.{referenceScreenSize, collapseTest}
+use Rattle.screen.specs.Screen.{referenceScreenSize, collapseTest}
 use Rattle.records.specs.declared.PreparedReference.{PreparedReference}
 use Rattle.plan_rules.specs.declared.ScenePlan.{ScenePlan}
 use Rattle.plan_rules.specs.declared.Fixed.{Fixed}

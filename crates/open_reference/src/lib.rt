@@ -2,11 +2,11 @@
 use geometry::bbox::Bounds;
 use geometry::bbox::WorldBBox;
 use geometry::placement::Placement;
-use geometry::screen::CollapseTest;
 use plan_rules::Fixed;
 use plan_rules::Reason;
 use plan_rules::ScenePlan;
 use records::PreparedReference;
+use screen::CollapseTest;
 ghost use mathlib.Core.Path.{_≡_};
 ghost use mathlib.Core.Bool.{false};
 ghost use Rattle.open_reference.specs.Left.{OpensReference, referenceTest};
@@ -34,7 +34,7 @@ pub fn open_reference(
         return over(plan);
     };
     let source_bbox = WorldBBox::new(min_x, min_y, max_x, max_y);
-    let local_bbox = geometry::grid::reference_bbox(reference.grid, source_bbox);
+    let local_bbox = grid::reference_bbox(reference.grid, source_bbox);
     let Bounds::Box(left, bottom, right, top) = local_bbox else {
         return over(plan);
     };
@@ -43,17 +43,17 @@ pub fn open_reference(
         WorldBBox::new(left, bottom, right, top),
     );
     if !world_bbox.overlaps(fixed.options.view) {
-        let culled = pushes::count_culled_reference(plan);
+        let culled = events::count_culled_reference(plan);
         return over(culled);
     }
     let source = reference.source;
     let label = records::label(source);
     if limits::detail_cells_full(plan) {
-        let boxed = pushes::add_load(out, plan, Reason::CellLimit, label, world_bbox);
+        let boxed = events::add_load(out, plan, Reason::CellLimit, label, world_bbox);
         return over(boxed);
     }
     if limits::detail_budget_exhausted(fixed, plan) {
-        let boxed = pushes::add_load(out, plan, Reason::OtherLimit, label, world_bbox);
+        let boxed = events::add_load(out, plan, Reason::OtherLimit, label, world_bbox);
         return over(boxed);
     }
     Opened {
@@ -88,10 +88,10 @@ pub fn reference_test(
 ) -> CollapseTest
     ensures { λ r. ⌜ r ≡ referenceTest fixed «source_bbox» bbox members units depth ⌝ }
 {
-    let size = geometry::screen::reference_screen_size(
+    let size = screen::reference_screen_size(
         bbox,
         fixed.options.zoom,
         geometry::bbox::source_is_degenerate(source_bbox),
     );
-    geometry::screen::collapse_test(size.width, size.height, members, units, depth, false)
+    screen::collapse_test(size.width, size.height, members, units, depth, false)
 }

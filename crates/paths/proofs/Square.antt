@@ -5,9 +5,10 @@ use Prim.Native.Nat.{ℕ, _^_, _≤_}
 use Rattle.geometry.specs.declared.placement.DVec2.{DVec2}
 use Rattle.geometry.specs.declared.bbox.WorldBBox.{WorldBBox}
 use Rattle.geometry.specs.declared.bbox.Bounds.{Bounds}
-use Rattle.geometry.specs.declared.grid.Grid.{Grid}
+use Rattle.grid.specs.declared.Grid.{Grid}
 use Rattle.geometry.specs.Bbox.{boxed}
 use Rattle.records.specs.declared.PreparedReference.{PreparedReference}
+use Rattle.records.specs.Format.{maxGridSide}
 use Rattle.abstract_sheet.specs.Sheet.{Sheet}
 use Rattle.exact.specs.Placement.{VectorWithin, IsVector, vectorOf}
 use Rattle.exact.specs.Member.{IsGrid, gridOf}
@@ -32,7 +33,7 @@ pub bounds-square : (o : Bounds) (b : WorldBBox) → o ≡ boxed b → SquareBou
 unfolding boxed
 bounds-square o b e h = subst SquareBounds e h
 
-grid-is : (g : Grid) → (g .columns ≤ 32767) × (g .rows ≤ 32767) → SquareGrid g → IsGrid g (gridOf g)
+grid-is : (g : Grid) → (g .columns ≤ maxGridSide) × (g .rows ≤ maxGridSide) → SquareGrid g → IsGrid g (gridOf g)
 grid-is g few h =
     gridOf-is g (few .0) (few .1) (vector-is (g .origin) (h .origin)) (vector-is (g .«spacing_x») (h .«spacing_x»)) (vector-is (g .«spacing_y») (h .«spacing_y»)) (h .magnification) (h .rotation)
     (record { origin = vector-within (g .origin) (h .origin); «spacing_x» = vector-within (g .«spacing_x») (h .«spacing_x»); «spacing_y» = vector-within (g .«spacing_y») (h .«spacing_y») })

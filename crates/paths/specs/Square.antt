@@ -9,11 +9,12 @@ use Rattle.geometry.specs.declared.placement.DVec2.{DVec2}
 use Rattle.geometry.specs.declared.bbox.WorldBBox.{WorldBBox}
 use Rattle.geometry.specs.declared.bbox.Bounds.{Bounds}
 use Rattle.geometry.specs.declared.bbox.Bounds.the-variants.{Absent, Box}
-use Rattle.geometry.specs.declared.grid.Grid.{Grid}
+use Rattle.grid.specs.declared.Grid.{Grid}
 use Rattle.geometry.specs.Bbox.{bbox}
 use Rattle.records.specs.declared.PreparedGeometry.{PreparedGeometry}
 use Rattle.records.specs.declared.PreparedText.{PreparedText}
 use Rattle.records.specs.declared.PreparedReference.{PreparedReference}
+use Rattle.records.specs.Format.{maxGridSide}
 use Rattle.abstract_sheet.specs.Sheet.{NodeRecord, CellRecord, Sheet}
 use Rattle.exact.specs.Integer.{integer, Within}
 use Rattle.exact.specs.IsInteger.{IsInteger, integerOf}
@@ -60,4 +61,4 @@ pub record Square (S : Sheet) : Type 0 where
 
 -- Question 4: "Are columns and rows at most 32,767". Every accepted sheet has this.
 abbrev pub FewMembers : Sheet → Type 0
-FewMembers S = (n : ℕ) (r : PreparedReference) → S .reference n ≡ some r → (r .grid .columns ≤ 32767) × (r .grid .rows ≤ 32767)
+FewMembers S = (n : ℕ) (r : PreparedReference) → S .reference n ≡ some r → (r .grid .columns ≤ maxGridSide) × (r .grid .rows ≤ maxGridSide)

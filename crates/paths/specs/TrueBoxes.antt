@@ -8,7 +8,7 @@ use Prim.Native.Nat.{ℕ, _<_}
 use Rattle.geometry.specs.declared.bbox.Bounds.{Bounds}
 use Rattle.geometry.specs.declared.bbox.Bounds.the-variants.{Absent, Box}
 use Rattle.geometry.specs.Bbox.{bbox}
-use Rattle.geometry.specs.Grid.{referenceBbox}
+use Rattle.grid.specs.Grid.{referenceBbox}
 use Rattle.records.specs.declared.PreparedSource.{PreparedSource}
 use Rattle.records.specs.declared.PreparedSource.the-variants.{Geometry, Text, Node, Reference, Cell}
 use Rattle.records.specs.declared.PreparedGeometry.{PreparedGeometry}

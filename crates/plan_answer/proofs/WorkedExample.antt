@@ -9,6 +9,8 @@ use Rattle.abstract_sheet.proofs.Examples.{workedText, workedCell, workedSheet}
 use Rattle.plan_text.specs.Ascii.{ascii}
 use Rattle.plan_query.proofs.Opened.{openedQuery}
 use Rattle.plan_text.proofs.Opened.{openedText}
+use Rattle.plan_rules.specs.Event.{encode}
+use Rattle.plan_rules.proofs.Cases.Opened.{opened}
 use Rattle.plan_rules.proofs.Cases.OpenedSheet.{openedSheet}
 use Rattle.plan_rules.specs.Samples.{whole}
 use Rattle.plan_answer.specs.Text.{outcomeText}
@@ -26,12 +28,12 @@ replyOfInput s = replyOf s [] (replicate 80 7) (8 ∷ []) (9 ∷ 9 ∷ 9 ∷ [])
 
 -- "All it prints"
 pub worked-example : (replyOfInput (workedQuery ++ workedSheet)) .text ≡ ascii "text 0 4024000000000000 4034000000000000\ntotals 1 1 0 0 0 0\n"
-unfolding openedQuery openedText openedSheet workedText workedCell workedSheet outcomeText replyOfQuery replyOf
+unfolding openedQuery openedText openedSheet opened encode workedText workedCell workedSheet outcomeText replyOfQuery replyOf
 worked-example = refl
 
 -- "A refusal prints `refused`, number, offset": a byte behind the sheet
 pub refusal : (replyOfInput (workedQuery ++ workedSheet ++ (0 ∷ []))) .text ≡ ascii "refused 2 86\n"
-unfolding openedQuery openedText openedSheet workedText workedCell workedSheet outcomeText replyOfQuery replyOf
+unfolding openedQuery openedText openedSheet opened encode workedText workedCell workedSheet outcomeText replyOfQuery replyOf
 refusal = refl
 
 -- "A first record that is no whole query prints `no query`"

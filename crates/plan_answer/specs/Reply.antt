@@ -1,10 +1,12 @@
 -- What an input is answered, and what stands in every lent place after it: the contracts equate a call to these definitions.
 -- Definitions only; rests on plan_query's reading of the query and the rules' outcome of a call.
+use mathlib.Core.Path.{_≡_}
 use mathlib.Core.Bool.{cond}
 use mathlib.Core.List.{List}
 use Prim.Native.Nat.{ℕ}
 use lib.ListN.{length, take, drop}
 use lib.Dec.{leb}
+use denote.Ref.{RefT}
 use Rattle.plan_query.specs.declared.QueryRecord.{QueryRecord}
 use Rattle.plan_query.specs.declared.FirstRecord.{FirstRecord}
 use Rattle.plan_query.specs.declared.FirstRecord.the-variants as first
@@ -28,6 +30,12 @@ pub record Reply : Type 0 where
 -- what a call answered and left
 abbrev pub reply : Printed → List ℕ → List ℕ → List ℕ → List ℕ → Reply
 reply r h o k m = record { text = textFrom r o 0; end = tapeEnd r; hidden = h; tape = o; counts = k; marks = m }
+
+-- what a call promises: its answer, and what it leaves in the lent places, are the definition's of what stood there before
+abbrev pub Replies : (List ℕ → List ℕ → List ℕ → List ℕ → Reply) → Printed → RefT (List ℕ) → RefT (List ℕ) → RefT (List ℕ) → RefT (List ℕ)
+    → RefT (List ℕ) → RefT (List ℕ) → RefT (List ℕ) → RefT (List ℕ) → Type 0
+Replies definition r hidden tape counts marks hidden₀ tape₀ counts₀ marks₀ =
+    reply r (hidden .now) (tape .now) (counts .now) (marks .now) ≡ definition (hidden₀ .now) (tape₀ .now) (counts₀ .now) (marks₀ .now)
 
 abbrev pub replyOfOutcome : Outcome → List ℕ → Reply
 replyOfOutcome c h = record { text = outcomeText c; end = c .tapeLength; hidden = h; tape = c .out; counts = c .counts; marks = c .marks }

@@ -3,11 +3,10 @@ use crate::Printed;
 use plan_query::FirstRecord;
 use plan_query::QueryRecord;
 use plan_rules::Answer;
-ghost use mathlib.Core.Path.{_≡_};
 ghost use Prim.Native.Nat.{_≤_};
 ghost use lib.ListN.{length};
 ghost use Rattle.plan_answer.specs.Text.{tapeEnd};
-ghost use Rattle.plan_answer.specs.Reply.{reply, replyOfQuery, replyOf, replyOfRead};
+ghost use Rattle.plan_answer.specs.Reply.{Replies, replyOfQuery, replyOf, replyOfRead};
 
 // Plans the sheet behind the query.
 fn plan_query(
@@ -20,7 +19,7 @@ fn plan_query(
 ) -> Printed
     requires { ⌜ query .sheet ≤ length (now input) ⌝ }
     requires { ⌜ query .hidden ≤ length (now hidden) ⌝ }
-    ensures { λ r. ⌜ reply r (now (hidden .entry)) (now (tape .exit)) (now (counts .exit)) (now (marks .exit)) ≡ replyOfQuery (now (input .entry)) query (now (hidden .entry)) (now (tape .entry)) (now (counts .entry)) (now (marks .entry)) ⌝ }
+    ensures { λ r. ⌜ Replies (replyOfQuery (now (input .entry)) query) r (hidden .entry) (tape .exit) (counts .exit) (marks .exit) (hidden .entry) (tape .entry) (counts .entry) (marks .entry) ⌝ }
     ensures { λ r. ⌜ tapeEnd r ≤ length (now (tape .exit)) ⌝ }
 {
     let sheet = query.sheet;
@@ -47,7 +46,7 @@ pub fn answer(
     counts: &mut [u64],
     marks: &mut [u8],
 ) -> Printed
-    ensures { λ r. ⌜ reply r (now (hidden .exit)) (now (tape .exit)) (now (counts .exit)) (now (marks .exit)) ≡ replyOf (now (input .entry)) (now (hidden .entry)) (now (tape .entry)) (now (counts .entry)) (now (marks .entry)) ⌝ }
+    ensures { λ r. ⌜ Replies (replyOf (now (input .entry))) r (hidden .exit) (tape .exit) (counts .exit) (marks .exit) (hidden .entry) (tape .entry) (counts .entry) (marks .entry) ⌝ }
     ensures { λ r. ⌜ tapeEnd r ≤ length (now (tape .exit)) ⌝ }
 {
     let first = plan_query::read_query(input, hidden);
@@ -67,7 +66,7 @@ pub fn answer_read(
     counts: &mut [u64],
     marks: &mut [u8],
 ) -> Printed
-    ensures { λ r. ⌜ reply r (now (hidden .exit)) (now (tape .exit)) (now (counts .exit)) (now (marks .exit)) ≡ replyOfRead (now (buffer .entry)) size (now (hidden .entry)) (now (tape .entry)) (now (counts .entry)) (now (marks .entry)) ⌝ }
+    ensures { λ r. ⌜ Replies (replyOfRead (now (buffer .entry)) size) r (hidden .exit) (tape .exit) (counts .exit) (marks .exit) (hidden .entry) (tape .entry) (counts .entry) (marks .entry) ⌝ }
     ensures { λ r. ⌜ tapeEnd r ≤ length (now (tape .exit)) ⌝ }
 {
     if buffer.len() <= size {

@@ -11,7 +11,7 @@ use Rattle.geometry.specs.declared.bbox.Bounds.the-variants.{Absent, Box}
 use Rattle.geometry.specs.declared.placement.Placement.{Placement}
 use Rattle.geometry.specs.Placement.{IDENTITY}
 use Rattle.geometry.specs.Bbox.{transformBbox, overlaps, transformBounds, isOutside, bbox}
-use Rattle.geometry.specs.Grid.{referenceBbox}
+use Rattle.grid.specs.Grid.{referenceBbox}
 use Rattle.records.specs.declared.PreparedSource.the-variants.{Geometry, Text, Node, Reference, Cell}
 use Rattle.records.specs.declared.PreparedReference.{PreparedReference}
 use Rattle.records.specs.Sources.{label}

@@ -5,7 +5,7 @@ use mathlib.Core.Bool.{Bool, true, false, cond, _||_}
 use mathlib.Core.Option.{Option, none, some}
 use Prim.Native.Nat.{ℕ, zero, suc, _+_, _*_, max}
 use lib.Dec.{leb, eqb}
-use Rattle.geometry.specs.Grid.{gridCount}
+use Rattle.grid.specs.Grid.{gridCount}
 use Rattle.records.specs.declared.PreparedSource.{PreparedSource}
 use Rattle.records.specs.declared.PreparedSource.the-variants.{Geometry, Text, Node, Reference, Cell}
 use Rattle.records.specs.declared.PreparedReference.{PreparedReference}

@@ -14,8 +14,11 @@ use Rattle.records.specs.declared.PreparedSource.{PreparedSource}
 use Rattle.records.specs.declared.PreparedReference.{PreparedReference}
 use Rattle.abstract_sheet.specs.Sheet.{NodeRecord, CellRecord, Sheet, sheetOf}
 use Rattle.plan_rules.specs.declared.ScenePlan.{ScenePlan}
+use Rattle.plan_rules.specs.declared.SceneOptions.{SceneOptions}
+use Rattle.plan_rules.specs.declared.Answer.{Answer}
 use Rattle.plan_rules.specs.declared.Fixed.{Fixed}
 use Rattle.plan_rules.specs.declared.Reason.{Reason}
+use Rattle.plan_rules.specs.Limits.{maxSceneObjects}
 use Rattle.plan_rules.specs.Event.{Event}
 use Rattle.plan_rules.specs.World.{Query, queryOf, World, world, Flow, go, flow, each}
 use Rattle.plan_rules.specs.DrawUnits.{Units}
@@ -60,6 +63,16 @@ Leaves r out definition s before = (k m : List ℕ) → world r (out .now) k m �
 -- the same of a call that also answers whether the visit goes on
 abbrev pub LeavesFlow : Bool → ScenePlan → RefT (List ℕ) → (Output → Flow (List ℕ)) → ScenePlan → RefT (List ℕ) → Type 0
 LeavesFlow whole r out definition s before = (k m : List ℕ) → flow whole (world r (out .now) k m) ≡ definition (world s (before .now) k m)
+
+-- ---- a whole call
+
+-- what it answered, and what stands in the lent output, counts and marks after it
+abbrev pub answers : Answer → RefT (List ℕ) → RefT (List ℕ) → RefT (List ℕ) → outcome.Outcome
+answers a out counts marks = outcome.outcome a (out .now) (counts .now) (marks .now)
+
+-- what the rules have it answer and leave, of a sheet, the options and the hidden layers
+abbrev pub planOutcome : RefT (List ℕ) → SceneOptions → RefT (List ℕ) → RefT (List ℕ) → RefT (List ℕ) → RefT (List ℕ) → outcome.Outcome
+planOutcome sheet options hidden out counts marks = outcome.outcomeOf (sheet .now) (queryOf options (hidden .now) maxSceneObjects) (out .now) (counts .now) (marks .now)
 
 -- ---- events and proxies
 

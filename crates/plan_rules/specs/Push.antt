@@ -2,7 +2,7 @@
 -- The rules are open in two things, so that one definition serves the code, the tape and the cover of items:
 --     `emit`, what becomes of an event: bytes on the tape, an entry of a list, nothing;
 --     `enter`, what becomes of the tag that says where a visit stands: nothing, or the path from the root.
--- Definitions only; rests on geometry's definitions, the abstract sheet, `Event` and `World`.
+-- Definitions only; rests on the definitions of geometry and screen, the abstract sheet, `Event` and `World`.
 use mathlib.Core.Bool.{not, cond}
 use mathlib.Core.Option.{Option, none, some}
 use Prim.Native.Nat.{ℕ}
@@ -13,7 +13,7 @@ use Rattle.geometry.specs.declared.bbox.Bounds.the-variants.{Absent, Box}
 use Rattle.geometry.specs.declared.placement.Placement.{Placement}
 use Rattle.geometry.specs.Placement.{transformPoint2}
 use Rattle.geometry.specs.Bbox.{transformBbox, overlaps, pointInBbox, bbox}
-use Rattle.geometry.specs.Screen.{screenSize, isSubpixel, isDenseBatch}
+use Rattle.screen.specs.Screen.{screenSize, isSubpixel, isDenseBatch}
 use Rattle.records.specs.declared.PreparedGeometry.{PreparedGeometry}
 use Rattle.records.specs.declared.PreparedText.{PreparedText}
 use Rattle.records.specs.Sources.{noLabel}

@@ -8,12 +8,12 @@ use Prim.Native.Nat.{ℕ, _+_, _-_, _^_, _≤_, _<_}
 use lib.ListN.{getD, replicate}
 use lib.IntN.{pos, negsuc}
 use lib.Ieee.{Float, fin, binary32, binary64, add, mul, ofInt, lt}
-use Rattle.floats.specs.Fma.{fma}
+use Rattle.fused.specs.Fma.{fma}
 use Rattle.geometry.specs.declared.bbox.WorldBBox.{WorldBBox}
 use Rattle.geometry.specs.Placement.{IDENTITY}
 use Rattle.geometry.specs.Bbox.{bbox}
-use Rattle.geometry.specs.Grid.{gridCount}
-use Rattle.geometry.specs.Screen.{screenSize, shouldCollapseReference}
+use Rattle.grid.specs.Grid.{gridCount}
+use Rattle.screen.specs.Screen.{screenSize, shouldCollapseReference}
 use Rattle.records.specs.declared.PreparedSource.the-variants.{Geometry, Cell}
 use Rattle.plan_rules.specs.Limits.{maxSceneObjects}
 use Rattle.plan_rules.specs.Event.{Event, emptyPlan}

@@ -1,7 +1,7 @@
 -- The visits: `visit_cell`, `visit_reference` and `visit_source` of bevy_scene.rs, with their tests and their records in the Rust's order.
 -- Document 01: "Visiting follows `visit_cell`, `visit_reference` and `visit_source`, where depth falls by one."
 -- Only the visit of a reference recurses, on the depth; the other two are given how a reference is visited.
--- Definitions only; rests on geometry's definitions, the abstract sheet, `DrawUnits` and `Push`.
+-- Definitions only; rests on the definitions of geometry, grid and screen, the abstract sheet, `DrawUnits` and `Push`.
 use mathlib.Core.Bool.{false, not, cond}
 use mathlib.Core.Option.{Option, none, some}
 use Prim.Native.Nat.{ℕ, zero, suc, _/_, max}
@@ -10,12 +10,12 @@ use Rattle.geometry.specs.declared.bbox.WorldBBox.{WorldBBox}
 use Rattle.geometry.specs.declared.bbox.Bounds.{Bounds}
 use Rattle.geometry.specs.declared.bbox.Bounds.the-variants.{Absent, Box}
 use Rattle.geometry.specs.declared.placement.Placement.{Placement}
-use Rattle.geometry.specs.declared.screen.CollapseTest.{CollapseTest}
-use Rattle.geometry.specs.declared.screen.CollapseTest.the-variants as test
+use Rattle.screen.specs.declared.CollapseTest.{CollapseTest}
+use Rattle.screen.specs.declared.CollapseTest.the-variants as test
 use Rattle.geometry.specs.Placement.{_·_}
 use Rattle.geometry.specs.Bbox.{transformBbox, overlaps, sourceIsDegenerate, transformBounds, isOutside, bbox}
-use Rattle.geometry.specs.Grid.{gridCount, gridMemberTransform, referenceBbox}
-use Rattle.geometry.specs.Screen.{referenceScreenSize, isSubpixel, collapseTest, collapses}
+use Rattle.grid.specs.Grid.{gridCount, gridMemberTransform, referenceBbox}
+use Rattle.screen.specs.Screen.{referenceScreenSize, isSubpixel, collapseTest, collapses}
 use Rattle.records.specs.declared.PreparedSource.{PreparedSource}
 use Rattle.records.specs.declared.PreparedSource.the-variants.{Geometry, Text, Node, Reference, Cell}
 use Rattle.records.specs.declared.PreparedReference.{PreparedReference}

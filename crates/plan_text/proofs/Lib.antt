@@ -2,7 +2,7 @@
 --     Digits       how many digits a number has, and how they are written
 --     Pieces       the pieces of a line, one after the other
 --     TapeLines    the lines of a tape, record by record
---     Examples     document 01's worked example and other lines, computed
+--     Examples     the line of a refusal, and numbers, computed
 --     Opened       one name that opens the text, to compute with it
 -- Assumes nothing.
 pub mod Digits

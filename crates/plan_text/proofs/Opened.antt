@@ -1,12 +1,10 @@
--- To compute with the text a proof names one definition: `unfolding openedText` opens it, down to the fields and the rules.
+-- To compute with the text a proof names one definition: `unfolding openedText` opens it, down to the fields.
 -- Assumes nothing.
 use Prim.Native.Nat.{ℕ}
 use Rattle.fields.specs.Field.{uintAt, uintBytes, f64At, f64Bytes, recordBytes}
 use Rattle.walk.specs.Offsets.{offsetsIn, offsetsFrom}
-use Rattle.plan_rules.specs.Event.{encode}
-use Rattle.plan_rules.proofs.Cases.Opened.{opened}
 use Rattle.plan_text.specs.Text.{digit, digits, decimalSizeIn, decimalSize, decimal, hexadecimal, number, float, labelText, eachField, lineOf, nextRecord, linesAt, linesFrom}
 
 unfoldable pub openedText : ℕ
-unfolding opened encode recordBytes uintAt uintBytes f64At f64Bytes offsetsIn offsetsFrom digit digits decimalSizeIn decimalSize decimal hexadecimal number float labelText eachField lineOf nextRecord linesAt linesFrom
+unfolding recordBytes uintAt uintBytes f64At f64Bytes offsetsIn offsetsFrom digit digits decimalSizeIn decimalSize decimal hexadecimal number float labelText eachField lineOf nextRecord linesAt linesFrom
 openedText = 0

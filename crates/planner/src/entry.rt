@@ -7,10 +7,7 @@ use plan_rules::Answer;
 use plan_rules::Fixed;
 use plan_rules::SceneOptions;
 ghost use mathlib.Core.Path.{_≡_};
-ghost use Rattle.plan_rules.specs.Limits.{maxSceneObjects};
-ghost use Rattle.plan_rules.specs.World.{queryOf};
-ghost use Rattle.plan_rules.specs.OnTape.{given, soundOutcome};
-ghost use Rattle.plan_rules.specs.Outcome.{outcome, outcomeOf};
+ghost use Rattle.plan_rules.specs.OnTape.{given, answers, planOutcome, soundOutcome};
 
 // Questions 8 to 12, and the plan of a sheet that passed the questions before.
 fn plan_sound(
@@ -21,7 +18,7 @@ fn plan_sound(
     counts: &mut [u64],
     marks: &mut [u8],
 ) -> Answer
-    ensures { λ r. ⌜ outcome r (now (out .exit)) (now (counts .exit)) (now (marks .exit)) ≡ soundOutcome (given fixed (sheet .entry) (hidden .entry)) (now (out .entry)) (now (counts .entry)) (now (marks .entry)) ⌝ }
+    ensures { λ r. ⌜ answers r (out .exit) (counts .exit) (marks .exit) ≡ soundOutcome (given fixed (sheet .entry) (hidden .entry)) (now (out .entry)) (now (counts .entry)) (now (marks .entry)) ⌝ }
 {
     let cells = fixed.counts.cells;
     let depth = fixed.options.depth;
@@ -53,7 +50,7 @@ pub fn plan(
     counts: &mut [u64],
     marks: &mut [u8],
 ) -> Answer
-    ensures { λ r. ⌜ outcome r (now (out .exit)) (now (counts .exit)) (now (marks .exit)) ≡ outcomeOf (now (sheet .entry)) (queryOf query (now (hidden .entry)) maxSceneObjects) (now (out .entry)) (now (counts .entry)) (now (marks .entry)) ⌝ }
+    ensures { λ r. ⌜ answers r (out .exit) (counts .exit) (marks .exit) ≡ planOutcome (sheet .entry) query (hidden .entry) (out .entry) (counts .entry) (marks .entry) ⌝ }
 {
     match check_sheet::check_sheet(sheet) {
         Checked::Refused(number, offset) => Answer::Refused(number, offset),

@@ -14,7 +14,7 @@ ghost use Rattle.planner.specs.Answered.{answered};
 pub fn finish(out: &mut [u8], plan: ScenePlan) -> Answer
     ensures { λ r. ⌜ ((k m : List ℕ) → outcome r (now (out .exit)) k m ≡ answered (say (totals plan) (world plan (now (out .entry)) k m))) ⌝ }
 {
-    let whole = pushes::list_totals(out, plan);
+    let whole = events::list_totals(out, plan);
     if whole.tape_end <= out.len() as u64 {
         return Answer::Planned(whole.tape_end as usize);
     }

@@ -27,7 +27,7 @@ fn load_root(sheet: &[u8], fixed: Fixed, out: &mut [u8], plan: ScenePlan) -> Sce
     if !bbox.overlaps(fixed.options.view) {
         return plan;
     }
-    pushes::add_load(out, plan, Reason::DepthZero, fixed.options.root, bbox)
+    events::add_load(out, plan, Reason::DepthZero, fixed.options.root, bbox)
 }
 
 pub fn visit_root(

@@ -3,22 +3,16 @@
 use mathlib.Core.List.{List}
 use Prim.Native.Nat.{ℕ}
 use lib.Ieee.{Float}
-use Rattle.plan_rules.specs.Limits.{maxSceneObjects}
-use Rattle.plan_rules.specs.World.{Query}
+use denote.Ref.{RefT}
+use Rattle.plan_rules.specs.declared.SceneOptions.{SceneOptions}
 use Rattle.plan_rules.specs.Outcome.{Outcome}
 
--- "A query: root cell 4, depth 4, view 4 f, zoom f, hidden layers", field by field
-abbrev pub queryFrom : ℕ → ℕ → Float → Float → Float → Float → Float → List ℕ → Query
-queryFrom root depth minX minY maxX maxY zoom hidden =
-    record {
-      root = root;
-      depth = depth;
-      view = record { «min_x» = minX; «min_y» = minY; «max_x» = maxX; «max_y» = maxY };
-      zoom = zoom;
-      hidden = hidden;
-      objectLimit = maxSceneObjects;
-    }
+-- "A query: root cell 4, depth 4, view 4 f, zoom f", field by field
+abbrev pub optionsFrom : ℕ → ℕ → Float → Float → Float → Float → Float → SceneOptions
+optionsFrom root depth minX minY maxX maxY zoom =
+    record { root = root; depth = depth; view = record { «min_x» = minX; «min_y» = minY; «max_x» = maxX; «max_y» = maxY }; zoom = zoom }
 
 -- the number that the call returns, the offset and the tape's length that it stores, and the lent places after it
-abbrev pub returned : ℕ → ℕ → ℕ → List ℕ → List ℕ → List ℕ → Outcome
-returned number offset length o k m = record { number = number; offset = offset; tapeLength = length; out = o; counts = k; marks = m }
+abbrev pub returned : ℕ → RefT ℕ → RefT ℕ → RefT (List ℕ) → RefT (List ℕ) → RefT (List ℕ) → Outcome
+returned number offset length out counts marks =
+    record { number = number; offset = offset .now; tapeLength = length .now; out = out .now; counts = counts .now; marks = marks .now }

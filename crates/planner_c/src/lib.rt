@@ -4,8 +4,8 @@ use geometry::bbox::WorldBBox;
 use plan_rules::Answer;
 use plan_rules::SceneOptions;
 ghost use mathlib.Core.Path.{_≡_};
-ghost use Rattle.plan_rules.specs.Outcome.{outcomeOf};
-ghost use Rattle.planner_c.specs.Call.{returned, queryFrom};
+ghost use Rattle.plan_rules.specs.OnTape.{planOutcome};
+ghost use Rattle.planner_c.specs.Call.{returned, optionsFrom};
 
 // The number of the first no, with its offset, or 0 with the tape's length.
 #[no_mangle]
@@ -25,7 +25,8 @@ pub extern "C" fn scene_plan(
     offset: &mut usize,
     length: &mut usize,
 ) -> u32
-    ensures { λ r. ⌜ returned r (now (offset .exit)) (now (length .exit)) (now (out .exit)) (now (counts .exit)) (now (marks .exit)) ≡ outcomeOf (now (sheet .entry)) (queryFrom root depth «min_x» «min_y» «max_x» «max_y» zoom (now (hidden .entry))) (now (out .entry)) (now (counts .entry)) (now (marks .entry)) ⌝ }
+    ensures { λ r. ⌜ returned r (offset .exit) (length .exit) (out .exit) (counts .exit) (marks .exit)
+        ≡ planOutcome (sheet .entry) (optionsFrom root depth «min_x» «min_y» «max_x» «max_y» zoom) (hidden .entry) (out .entry) (counts .entry) (marks .entry) ⌝ }
 {
     let view = WorldBBox {
         min_x,

@@ -1,4 +1,4 @@
--- THE FORMAT OF A SHEET'S RECORDS: document 01's table of the five kinds, each a list of fields with their widths in bytes.
+-- THE FORMAT OF A SHEET'S RECORDS: document 01's table of the five kinds, each a list of fields with their widths in bytes, and the limits of a sheet.
 -- The offset of a field is computed from its list and stands nowhere else. The code's constants (`format.rt`) are held to it by each reader's proof.
 -- Definitions only. Assumes nothing.
 use Prim.Native.Nat.{ℕ, _+_, _*_}
@@ -54,6 +54,28 @@ abbrev pub cell : List Field
 cell =
     headed
     ((flags, 2) ∷ (drawUnits, 8) ∷ (box, 4 * f) ∷ (geometryCount, 2) ∷ (textCount, 2) ∷ (nodeCount, 2) ∷ (referenceCount, 2) ∷ [])
+
+-- ---- The limits of a sheet
+
+-- "Is the sheet at most 16,777,216 bytes?"
+abbrev pub maxSheetBytes : ℕ
+maxSheetBytes = 16777216
+
+-- "Are there at most 4,096 cells?"
+abbrev pub maxCells : ℕ
+maxCells = 4096
+
+-- "Are columns and rows at most 32,767"
+abbrev pub maxGridSide : ℕ
+maxGridSide = 32767
+
+-- "0 to 512 value bytes"
+abbrev pub maxValueBytes : ℕ
+maxValueBytes = 512
+
+-- "1 to 50 points"
+abbrev pub maxPoints : ℕ
+maxPoints = 50
 
 -- ---- What it says of a field
 

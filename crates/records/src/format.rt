@@ -1,4 +1,4 @@
-// The format of a sheet's records: the offset of each field of document 01's table, each where the field before it ends.
+// The format of a sheet's records: the offset of each field of document 01's table, each where the field before it ends; and the limits of a sheet.
 // `specs/Format.antt` has the table; the proof of each reader holds these to it.
 
 use fields::HEAD;
@@ -82,3 +82,16 @@ pub(crate) const NODE_COUNT: usize = TEXT_COUNT + 2;
 pub(crate) const REFERENCE_COUNT: usize = NODE_COUNT + 2;
 
 pub const CELL_END: usize = REFERENCE_COUNT + 2;
+
+// ---- The limits of a sheet
+
+pub const MAX_SHEET_BYTES: usize = 16_777_216;
+
+pub const MAX_CELLS: u32 = 4_096;
+
+// Columns, and rows.
+pub const MAX_GRID_SIDE: u16 = 32_767;
+
+pub const MAX_VALUE_BYTES: usize = 512;
+
+pub const MAX_POINTS: usize = 50;

@@ -38,8 +38,8 @@ use crate::parts::dvec2_at;
 use crate::parts::from;
 use crate::parts::source_of;
 use crate::parts::world_bbox_at;
-use geometry::grid::Grid;
 use geometry::placement::DVec2;
+use grid::Grid;
 
 pub fn geometry_at(s: &[u8], at: usize) -> PreparedGeometry
     ensures { λ r. ⌜ r ≡ geometryAt (now (s .entry)) at ⌝ }

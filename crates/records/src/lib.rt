@@ -3,8 +3,8 @@
 // The others are total: what lies past the end of the bytes is read as zeros.
 use geometry::bbox::Bounds;
 use geometry::bbox::WorldBBox;
-use geometry::grid::Grid;
 use geometry::placement::DVec2;
+use grid::Grid;
 
 pub mod format; // where each field stands
 mod parts; // what the body of a record is made of

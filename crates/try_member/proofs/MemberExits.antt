@@ -8,12 +8,12 @@ use native.Mathlib.Nat.{div-lt-iff-lt-mul, mod-lt}
 use native.Mathlib.Omega.{arith}
 use Rattle.geometry.specs.declared.bbox.WorldBBox.{WorldBBox}
 use Rattle.geometry.specs.declared.placement.Placement.{Placement}
-use Rattle.geometry.specs.declared.screen.ScreenSize.{ScreenSize}
-use Rattle.geometry.specs.declared.screen.CollapseTest.{CollapseTest}
+use Rattle.screen.specs.declared.ScreenSize.{ScreenSize}
+use Rattle.screen.specs.declared.CollapseTest.{CollapseTest}
 use Rattle.geometry.specs.Placement.{_·_}
 use Rattle.geometry.specs.Bbox.{transformBbox, overlaps, sourceIsDegenerate}
-use Rattle.geometry.specs.Grid.{gridMemberTransform}
-use Rattle.geometry.specs.Screen.{referenceScreenSize, isSubpixel, collapseTest, collapses}
+use Rattle.grid.specs.Grid.{gridMemberTransform}
+use Rattle.screen.specs.Screen.{referenceScreenSize, isSubpixel, collapseTest, collapses}
 use Rattle.records.specs.declared.PreparedReference.{PreparedReference}
 use Rattle.records.specs.Sources.{label}
 use Rattle.plan_rules.specs.declared.Fixed.{Fixed}

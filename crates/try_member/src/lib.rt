@@ -6,7 +6,7 @@ use plan_rules::Reason;
 use plan_rules::ScenePlan;
 use records::PreparedReference;
 ghost use Prim.Native.Nat.{_<_};
-ghost use Rattle.geometry.specs.Grid.{gridCount};
+ghost use Rattle.grid.specs.Grid.{gridCount};
 ghost use Rattle.try_member.specs.Left.{TriesMember};
 
 // The plan so far; whether the member's source is to be visited, with the member's placement and box; if not, whether the visit of the reference goes on.
@@ -38,7 +38,7 @@ pub fn try_member(
     let rows = grid.rows as u64;
     let column = (i / rows) as u32;
     let row = (i % rows) as u32;
-    let member_transform = transform.mul(geometry::grid::grid_member_transform(grid, column, row));
+    let member_transform = transform.mul(grid::grid_member_transform(grid, column, row));
     let bbox = geometry::bbox::transform_bbox(member_transform, source_bbox);
     let source = reference.source;
     let label = records::label(source);
@@ -50,23 +50,23 @@ pub fn try_member(
         bbox,
     };
     if limits::detail_budget_exhausted(fixed, plan) {
-        tried.plan = pushes::add_load(out, plan, Reason::OtherLimit, label, world_bbox);
+        tried.plan = events::add_load(out, plan, Reason::OtherLimit, label, world_bbox);
         tried.whole = false;
         return tried;
     }
     if !bbox.overlaps(fixed.options.view) {
-        tried.plan = pushes::count_culled_reference(plan);
+        tried.plan = events::count_culled_reference(plan);
         return tried;
     }
     let degenerate = geometry::bbox::source_is_degenerate(source_bbox);
-    let size = geometry::screen::reference_screen_size(bbox, fixed.options.zoom, degenerate);
-    if geometry::screen::is_subpixel(size) {
-        tried.plan = pushes::count_skipped_member(plan);
+    let size = screen::reference_screen_size(bbox, fixed.options.zoom, degenerate);
+    if screen::is_subpixel(size) {
+        tried.plan = events::count_skipped_member(plan);
         return tried;
     }
-    let test = geometry::screen::collapse_test(size.width, size.height, 1, units, depth, false);
-    if geometry::screen::collapses(test) {
-        tried.plan = pushes::add_load(out, plan, pushes::collapse_reason(test), label, bbox);
+    let test = screen::collapse_test(size.width, size.height, 1, units, depth, false);
+    if screen::collapses(test) {
+        tried.plan = events::add_load(out, plan, events::collapse_reason(test), label, bbox);
         return tried;
     }
     tried.opens = true;

@@ -8,7 +8,7 @@ use mathlib.Core.Option.{some}
 use Prim.Native.Nat.{ℕ, _-_, _*_, _≤_, _<_, max}
 use lib.ListN.{getD, set}
 use borrow.Author.Tests.{lt-leb, le-leb, eq-eqb, ne-eqb}
-use Rattle.geometry.specs.Grid.{gridCount}
+use Rattle.grid.specs.Grid.{gridCount}
 use Rattle.walk.specs.declared.Found.the-variants.{At, Nothing}
 use Rattle.look_up.specs.Look.{look}
 use Rattle.records.specs.declared.PreparedSource.{PreparedSource}

@@ -22,7 +22,7 @@ pub fn reference_draw_units(
 ) -> u64
     ensures { λ r. ⌜ counted r (now (counts .exit)) (now (marks .exit)) ≡ referenceDrawUnits (sheetOf (now (sheet .entry))) cells depth reference (now (counts .entry)) (now (marks .entry)) ⌝ }
 {
-    let count = geometry::grid::grid_count(reference.grid);
+    let count = grid::grid_count(reference.grid);
     if count == 0 {
         return 0;
     }

@@ -11,10 +11,10 @@ use lib.Dec.{leb}
 use borrow.Author.Tests.{leb-false}
 use Rattle.geometry.specs.declared.bbox.WorldBBox.{WorldBBox}
 use Rattle.geometry.specs.declared.placement.Placement.{Placement}
-use Rattle.geometry.specs.declared.screen.CollapseTest.{CollapseTest}
+use Rattle.screen.specs.declared.CollapseTest.{CollapseTest}
 use Rattle.geometry.specs.Bbox.{sourceIsDegenerate}
-use Rattle.geometry.specs.Grid.{gridCount}
-use Rattle.geometry.specs.Screen.{referenceScreenSize, collapseTest, collapses}
+use Rattle.grid.specs.Grid.{gridCount}
+use Rattle.screen.specs.Screen.{referenceScreenSize, collapseTest, collapses}
 use Rattle.walk.specs.declared.Found.the-variants.{At, Nothing}
 use Rattle.look_up.specs.Look.{look}
 use Rattle.records.specs.declared.PreparedReference.{PreparedReference}

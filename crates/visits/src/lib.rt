@@ -100,7 +100,7 @@ fn visit_reference(
     }
     let source_bbox = opened.source_bbox;
     let world_bbox = opened.world_bbox;
-    let count = geometry::grid::grid_count(reference.grid);
+    let count = grid::grid_count(reference.grid);
     let draw_units = units::reference_draw_units(
         sheet,
         fixed.counts.cells,
@@ -118,9 +118,9 @@ fn visit_reference(
         depth,
     );
     let label = records::label(source);
-    if geometry::screen::collapses(test) {
-        let why = pushes::collapse_reason(test);
-        return pushes::add_load(out, next, why, label, world_bbox);
+    if screen::collapses(test) {
+        let why = events::collapse_reason(test);
+        return events::add_load(out, next, why, label, world_bbox);
     }
     let share = units::source_units(draw_units, count);
     let mut i: u64 = 0;
@@ -153,7 +153,7 @@ fn visit_reference(
             );
             next = visited.plan;
             if !visited.whole {
-                return pushes::add_load(out, next, Reason::OtherLimit, label, tried.bbox);
+                return events::add_load(out, next, Reason::OtherLimit, label, tried.bbox);
             }
         } else if !tried.whole {
             return next;

@@ -9,7 +9,7 @@ use lib.Dec.{T, eqb}
 use borrow.Author.Tests.{leb-true, eqb-true, ne-eqb}
 use Rattle.walk.specs.Offsets.{lengthAt, kindAt}
 use Rattle.records.specs.Format as format
-use Rattle.records.specs.Format.{f, endOf}
+use Rattle.records.specs.Format.{f, endOf, maxValueBytes, maxPoints}
 use Rattle.check_record.proofs.Tests.{both-first, both-second}
 use Rattle.check_record.specs.Shape.{listsAt, lengthOk, shapeOk}
 use Rattle.check_record.specs.Floats.{floatsFrom, floatsCount}
@@ -17,8 +17,8 @@ use Rattle.check_record.specs.Floats.{floatsFrom, floatsCount}
 -- the length of a record of each kind, where a cell's lists have m numbers together
 pub record Sized (kind n m : ℕ) : Type 0 where
   pub geometry : kind ≡ 1 → n ≡ endOf format.geometry
-  pub text : kind ≡ 2 → (endOf format.text ≤ n) × (n ≤ endOf format.text + 512)
-  pub node : kind ≡ 3 → (endOf format.node + 2 * f * 1 ≤ n) × (n ≤ endOf format.node + 2 * f * 50) × ((n - endOf format.node) % (2 * f) ≡ 0)
+  pub text : kind ≡ 2 → (endOf format.text ≤ n) × (n ≤ endOf format.text + maxValueBytes)
+  pub node : kind ≡ 3 → (endOf format.node + 2 * f * 1 ≤ n) × (n ≤ endOf format.node + 2 * f * maxPoints) × ((n - endOf format.node) % (2 * f) ≡ 0)
   pub reference : kind ≡ 4 → n ≡ endOf format.reference
   pub cell : kind ≡ 5 → n ≡ endOf format.cell + 4 * m
 

@@ -13,7 +13,7 @@ use Rattle.fields.proofs.Reading.{uintAt-add}
 use Rattle.fields.proofs.Writing.{pow256-pos}
 use Rattle.walk.specs.Offsets.{kindAt}
 use Rattle.records.specs.Format as field
-use Rattle.records.specs.Format.{reference, offsetIn, fieldAt}
+use Rattle.records.specs.Format.{reference, offsetIn, fieldAt, maxGridSide}
 use Rattle.check_record.specs.Tests.{both}
 use Rattle.check_record.proofs.Tests.{both-first, both-second}
 use Rattle.check_record.specs.Values.{zeroBox, sourceOk, gridOk, referenceOk, valuesOk}
@@ -42,8 +42,8 @@ zero-box-fields s at =
 
 -- what question 4 says of a reference
 pub record GridOk (columns rows flags kind number : ℕ) (zeros : Bool) : Type 0 where
-  pub columns-most : columns ≤ 32767
-  pub rows-most : rows ≤ 32767
+  pub columns-most : columns ≤ maxGridSide
+  pub rows-most : rows ≤ maxGridSide
   pub source-least : 1 ≤ kind
   pub source-most : kind ≤ 5
   pub cell-source : kind ≡ 5 → number < 0xffffffff

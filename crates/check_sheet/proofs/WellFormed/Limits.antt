@@ -7,6 +7,7 @@ use mathlib.Core.List.{List}
 use mathlib.Core.Option.{some}
 use Rattle.records.specs.declared.PreparedReference.{PreparedReference}
 use Rattle.records.specs.Records.{nodeAt, gridAt, referenceAt}
+use Rattle.records.specs.Format.{maxCells}
 use Rattle.abstract_sheet.specs.Sheet.{NodeRecord, CellRecord, sheetOf, nodeRecordAt, nodes, references, cells}
 use Rattle.abstract_sheet.proofs.Lookup.{item-located, item-below}
 use Rattle.check_record.proofs.Facts.Lengths.{shape-sized}
@@ -17,7 +18,7 @@ use Rattle.check_sheet.proofs.WellFormed.Named.{cell-source-below}
 
 module _ (s : List ℕ) (valid : Valid s) (n : ℕ) where
   -- question 6
-  pub few-cells : (c : CellRecord) → sheetOf s .cell n ≡ some c → n < 4096
+  pub few-cells : (c : CellRecord) → sheetOf s .cell n ≡ some c → n < maxCells
   few-cells c e = omega (arith, item-below cells s n c e, valid .few-cells)
 
   -- question 4

@@ -9,7 +9,7 @@ use native.Mathlib.Omega.{arith}
 use Rattle.geometry.specs.declared.placement.Placement.{Placement}
 use Rattle.geometry.specs.Placement.{transformPoint2}
 use Rattle.geometry.specs.Bbox.{transformBbox, overlaps, pointInBbox}
-use Rattle.geometry.specs.Screen.{screenSize, isSubpixel, isDenseBatch}
+use Rattle.screen.specs.Screen.{screenSize, isSubpixel, isDenseBatch}
 use Rattle.records.specs.declared.PreparedSource.{PreparedSource}
 use Rattle.records.specs.declared.PreparedSource.the-variants.{Geometry, Text, Node, Reference, Cell}
 use Rattle.records.specs.declared.PreparedGeometry.{PreparedGeometry}

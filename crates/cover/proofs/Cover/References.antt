@@ -13,8 +13,8 @@ use Rattle.geometry.specs.declared.bbox.WorldBBox.{WorldBBox}
 use Rattle.geometry.specs.declared.bbox.Bounds.{Bounds}
 use Rattle.geometry.specs.Placement.{_·_}
 use Rattle.geometry.specs.Bbox.{boxed, transformBbox, overlaps, sourceIsDegenerate}
-use Rattle.geometry.specs.Grid.{gridCount, gridMemberTransform, cornersBbox}
-use Rattle.geometry.specs.Screen.{referenceScreenSize, isSubpixel, collapseTest, collapses}
+use Rattle.grid.specs.Grid.{gridCount, gridMemberTransform, cornersBbox}
+use Rattle.screen.specs.Screen.{referenceScreenSize, isSubpixel, collapseTest, collapses}
 use Rattle.records.specs.declared.PreparedReference.{PreparedReference}
 use Rattle.records.specs.Sources.{label}
 use Rattle.abstract_sheet.specs.Sheet.{Sheet}

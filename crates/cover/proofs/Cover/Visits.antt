@@ -10,7 +10,7 @@ use Rattle.geometry.specs.declared.bbox.WorldBBox.{WorldBBox}
 use Rattle.geometry.specs.declared.bbox.Bounds.{Bounds}
 use Rattle.geometry.specs.Placement.{IDENTITY, _·_}
 use Rattle.geometry.specs.Bbox.{boxed, transformBbox, overlaps, transformBounds}
-use Rattle.geometry.specs.Grid.{gridMemberTransform, cornersBbox}
+use Rattle.grid.specs.Grid.{gridMemberTransform, cornersBbox}
 use Rattle.records.specs.declared.PreparedSource.{PreparedSource}
 use Rattle.records.specs.declared.PreparedSource.the-variants.{Geometry, Text, Node, Reference, Cell}
 use Rattle.abstract_sheet.specs.Sheet.{CellRecord, Sheet}

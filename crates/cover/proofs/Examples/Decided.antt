@@ -17,7 +17,7 @@ use Rattle.geometry.specs.declared.placement.DVec2.{DVec2}
 use Rattle.geometry.specs.declared.bbox.WorldBBox.{WorldBBox}
 use Rattle.geometry.specs.declared.bbox.Bounds.{Bounds}
 use Rattle.geometry.specs.declared.bbox.Bounds.the-variants.{Absent, Box}
-use Rattle.geometry.specs.declared.grid.Grid.{Grid}
+use Rattle.grid.specs.declared.Grid.{Grid}
 use Rattle.geometry.specs.Bbox.{bbox}
 use Rattle.walk.specs.Find.{answer, findIn, ofKind}
 use Rattle.records.specs.declared.PreparedGeometry.{PreparedGeometry}

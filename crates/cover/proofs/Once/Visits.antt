@@ -12,8 +12,8 @@ use Rattle.geometry.specs.declared.bbox.Bounds.{Bounds}
 use Rattle.geometry.specs.declared.bbox.Bounds.the-variants.{Absent, Box}
 use Rattle.geometry.specs.Placement.{IDENTITY, _·_}
 use Rattle.geometry.specs.Bbox.{bbox, transformBbox, overlaps, sourceIsDegenerate, transformBounds, isOutside}
-use Rattle.geometry.specs.Grid.{gridCount, gridMemberTransform, referenceBbox}
-use Rattle.geometry.specs.Screen.{referenceScreenSize, isSubpixel, collapseTest, collapses}
+use Rattle.grid.specs.Grid.{gridCount, gridMemberTransform, referenceBbox}
+use Rattle.screen.specs.Screen.{referenceScreenSize, isSubpixel, collapseTest, collapses}
 use Rattle.records.specs.declared.PreparedSource.{PreparedSource}
 use Rattle.records.specs.declared.PreparedSource.the-variants.{Geometry, Text, Node, Reference, Cell}
 use Rattle.records.specs.declared.PreparedReference.{PreparedReference}

@@ -11,7 +11,7 @@ use Rattle.plan_rules.specs.Event.{detailCell}
 use Rattle.plan_rules.specs.World.{world}
 use Rattle.plan_rules.specs.OnTape.{say}
 use Rattle.enter_cell.proofs.FoundCell.{cell-outside, cell-detail-full, cell-exhausted, cell-open, cell-entered}
-use Rattle.pushes.proofs.Over.{is-over}
+use Rattle.events.proofs.Over.{is-over}
 use borrow.Author.Needs.{needs}
 use Rattle.enter_cell.proofs.enter_cell.Statement.{statement}
 use Rattle.enter_cell.proofs.enter_cell.Tie as tie

@@ -9,7 +9,7 @@ use lib.Ieee.{Float}
 use lib.Ieee.Fits.{eq→eqb}
 use lib.Ieee.Bits.{is-true, is-false}
 use Rattle.geometry.specs.declared.bbox.WorldBBox.{WorldBBox}
-use Rattle.geometry.specs.declared.grid.Grid.{Grid}
+use Rattle.grid.specs.declared.Grid.{Grid}
 use Rattle.exact.specs.Integer.{Integer, integer, _≐_, isEqual, isBelow}
 use Rattle.exact.specs.IsInteger.{IsInteger, integerOf}
 use Rattle.exact.specs.Placement.{IsVector, vectorOf}

@@ -8,9 +8,9 @@ use lib.Ieee.Bits.{is-false}
 use Rattle.geometry.specs.declared.placement.Placement.{Placement}
 use Rattle.geometry.specs.declared.bbox.WorldBBox.{WorldBBox}
 use Rattle.geometry.specs.declared.bbox.Bounds.the-variants.{Absent}
-use Rattle.geometry.specs.declared.grid.Grid.{Grid}
+use Rattle.grid.specs.declared.Grid.{Grid}
 use Rattle.geometry.specs.Bbox.{boxed, merge, transformBbox}
-use Rattle.geometry.specs.Grid.{gridMemberTransform, memberBbox, cornersBbox, referenceBbox}
+use Rattle.grid.specs.Grid.{gridMemberTransform, memberBbox, cornersBbox, referenceBbox}
 use Rattle.exact.specs.Placement.{ExactPlacement, IsPlacement, memberReach, AtLevel, deepestLevel}
 use Rattle.exact.specs.Member.{IntegerGrid, memberPlacement, IsGrid}
 use Rattle.exact.specs.Box.{IntegerBox, Proper, BoxWithin, IsBox, place, join, memberBox, referenceBox}

@@ -6,7 +6,7 @@ use native.Mathlib.Nat.{mul-add, mul-pos}
 use native.Mathlib.Omega.{arith}
 use lib.Ieee.{Float, nan, inf, fin, Format, prec, up, down, round, sum, mul, unlike}
 use lib.Ieee.Fits.{down-pos}
-use Rattle.floats.specs.Fma.{fma}
+use Rattle.fused.specs.Fma.{fma}
 use Rattle.exact.specs.Integer.{Integer, _⊕_, _⊗_, negateIf, _≐_, Within}
 use Rattle.exact.specs.IsInteger.{IsQuotient, IsInteger}
 use Rattle.exact.proofs.Integers.Bounds.{within-same}

@@ -5,9 +5,9 @@ use mathlib.Core.Bool.{Bool, true, false, cond}
 use native.Mathlib.Omega.{arith}
 use lib.Ieee.{Float, binary64}
 use Rattle.geometry.specs.declared.placement.DVec2.{DVec2}
-use Rattle.geometry.specs.declared.grid.Grid.{Grid}
+use Rattle.grid.specs.declared.Grid.{Grid}
 use Rattle.geometry.specs.Placement.{vec}
-use Rattle.geometry.specs.Grid.{yAxis as gridYAxis, scaled}
+use Rattle.grid.specs.Grid.{yAxis as gridYAxis, scaled}
 use Rattle.exact.specs.Integer.{Integer, integer}
 use Rattle.exact.specs.IsInteger.{IsInteger, exactUpTo}
 use Rattle.exact.specs.Placement.{Vector, VectorWithin, xAxis, yAxis, IsVector}

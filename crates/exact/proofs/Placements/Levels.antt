@@ -3,9 +3,9 @@ use Prim.Native.Nat.{ℕ, suc, _+_, _*_, _^_, _≤_}
 use native.Mathlib.Omega.{arith}
 use Rattle.geometry.specs.declared.placement.DVec2.{DVec2}
 use Rattle.geometry.specs.declared.placement.Placement.{Placement}
-use Rattle.geometry.specs.declared.grid.Grid.{Grid}
+use Rattle.grid.specs.declared.Grid.{Grid}
 use Rattle.geometry.specs.Placement.{transformPoint2, _·_}
-use Rattle.geometry.specs.Grid.{gridMemberTransform}
+use Rattle.grid.specs.Grid.{gridMemberTransform}
 use Rattle.exact.specs.IsInteger.{exactUpTo}
 use Rattle.exact.specs.Placement.{Vector, VectorWithin, orient, ExactPlacement, identity, move, _∘_, IsVector, IsPlacement, memberReach, AtLevel, deepestLevel}
 use Rattle.exact.specs.Member.{IntegerGrid, memberPlacement, IsGrid}

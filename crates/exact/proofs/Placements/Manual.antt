@@ -5,9 +5,9 @@ use mathlib.Core.List.{List, [], _∷_}
 use Prim.Native.Nat.{ℕ, _*_, _^_, _≤_, _<_}
 use native.Mathlib.Omega.{arith}
 use Rattle.geometry.specs.declared.placement.DVec2.{DVec2}
-use Rattle.geometry.specs.declared.grid.Grid.{Grid}
+use Rattle.grid.specs.declared.Grid.{Grid}
 use Rattle.geometry.specs.Placement.{transformPoint2}
-use Rattle.geometry.specs.Grid.{gridMemberTransform}
+use Rattle.grid.specs.Grid.{gridMemberTransform}
 use Rattle.exact.specs.Placement.{Vector, _⊹_, _≐ᵛ_, VectorWithin, orient, ExactPlacement, identity, move, _∘_, IsVector, memberReach}
 use Rattle.exact.specs.Member.{Rotation, degrees0, degrees90, degrees180, degrees270, rotation, reflectedRotation, IntegerGrid, memberOffset, memberPlacement, IsGrid}
 use Rattle.exact.specs.Manual.{rotate, manualTurn, SingleReference, manualPlace, singleMember, PlacesAlong, ManualPlacing}

@@ -3,8 +3,8 @@ use mathlib.Core.Path.{refl}
 use Prim.Native.Nat.{ℕ, _+_, _^_, _≤_}
 use native.Mathlib.Omega.{arith}
 use lib.Ieee.{binary64}
-use Rattle.geometry.specs.declared.grid.Grid.{Grid}
-use Rattle.geometry.specs.Grid.{offset, rotated, gridMemberTransform}
+use Rattle.grid.specs.declared.Grid.{Grid}
+use Rattle.grid.specs.Grid.{offset, rotated, gridMemberTransform}
 use Rattle.exact.specs.IsInteger.{exactUpTo}
 use Rattle.exact.specs.Placement.{_⊹_, VectorWithin, orient, IsPlacement, memberReach}
 use Rattle.exact.specs.Member.{IntegerGrid, memberOffset, offsetOrientation, memberPlacement, GridWithin, IsGrid}

@@ -5,10 +5,10 @@ use Prim.Native.Nat.{ℕ, _+_, _*_, _^_, _≤_}
 use native.Mathlib.Omega.{arith}
 use lib.Ieee.{Float, binary64, round, add, mul, neg, ofInt}
 use lib.Ieee.Back.{round-whole}
-use Rattle.floats.specs.Fma.{fma}
+use Rattle.fused.specs.Fma.{fma}
 use Rattle.geometry.specs.declared.placement.DVec2.{DVec2}
-use Rattle.geometry.specs.declared.grid.Grid.{Grid}
-use Rattle.geometry.specs.Grid.{f64From, offset, rotated}
+use Rattle.grid.specs.declared.Grid.{Grid}
+use Rattle.grid.specs.Grid.{f64From, offset, rotated}
 use Rattle.exact.specs.Integer.{Integer, integer, _⊕_, _⊗_, negate, _≐_, Within}
 use Rattle.exact.specs.IsInteger.{IsInteger, exactUpTo}
 use Rattle.exact.specs.Placement.{Vector, VectorWithin, orient, IsVector}

@@ -9,10 +9,10 @@ use lib.IntN.{pos}
 use lib.Pow.{pow-add}
 use lib.Ieee.{Float, nan, inf, fin, binary32, binary64, up, down, mul, sub, le, lt, isNan}
 use lib.Ieee.Fits.{down-pos}
-use Rattle.floats.specs.Narrow.{narrow}
+use Rattle.rounding.specs.Narrow.{narrow}
 use Rattle.floats.specs.Order.{abs, maxNum, isFinite}
 use Rattle.geometry.specs.declared.bbox.WorldBBox.{WorldBBox}
-use Rattle.geometry.specs.Screen.{minFixedContentPx, onePx, side, screenSize, referenceScreenSize, isSubpixel}
+use Rattle.screen.specs.Screen.{minFixedContentPx, onePx, side, screenSize, referenceScreenSize, isSubpixel}
 use Rattle.exact.specs.Integer.{Integer, _⊕_, negate, negateIf, Within}
 use Rattle.exact.specs.IsInteger.{IsInteger}
 use Rattle.exact.specs.Box.{IntegerBox, IsBox, SidesWithin}

@@ -12,7 +12,7 @@ use Rattle.plan_rules.specs.World.{world}
 use Rattle.plan_rules.specs.declared.Reason.{Reason}
 use Rattle.plan_rules.specs.OnTape.{addLoad}
 use Rattle.open_reference.proofs.SourcedReference.{HasBox, HasMembers, reference-unboxed, reference-empty, reference-culled, reference-detail-full, reference-exhausted, reference-opened}
-use Rattle.pushes.proofs.Over.{is-over}
+use Rattle.events.proofs.Over.{is-over}
 use borrow.Author.Needs.{needs}
 use Rattle.open_reference.proofs.open_reference.Statement.{statement}
 use Rattle.open_reference.proofs.open_reference.Tie as tie

@@ -1,8 +1,8 @@
 -- `open_reference::reference_test` meets its contract. Assumes nothing.
 use mathlib.Core.Path.{ap, _∙_}
 use mathlib.Core.Bool.{Bool, false}
-use Rattle.geometry.specs.declared.screen.ScreenSize.{ScreenSize}
-use Rattle.geometry.specs.Screen.{referenceScreenSize, collapseTest}
+use Rattle.screen.specs.declared.ScreenSize.{ScreenSize}
+use Rattle.screen.specs.Screen.{referenceScreenSize, collapseTest}
 use borrow.Author.Needs.{needs}
 use Rattle.open_reference.proofs.reference_test.Statement.{statement}
 use Rattle.open_reference.proofs.reference_test.Tie as tie

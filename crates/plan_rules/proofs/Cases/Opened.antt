@@ -1,7 +1,8 @@
 -- To compute with the rules a proof names one definition: `unfolding opened` opens all of them, down to the floats.
 -- Assumes nothing.
 use Prim.Native.Nat.{ℕ}
-use Rattle.geometry.proofs.Opened as geometry
+use Rattle.grid.proofs.Opened as grid
+use Rattle.screen.proofs.Opened as screen
 use Rattle.abstract_sheet.proofs.Opened as abstract
 use Rattle.records.specs.Sources.{label}
 use Rattle.plan_rules.specs.Event.{encode, saturate, _⊞_, emptyPlan, after}
@@ -16,5 +17,5 @@ use Rattle.plan_rules.specs.Questions.{viewOk, zoomOk, depthOk, hasScrat
 use Rattle.plan_rules.specs.Outcome.{freshPlan, tapeOf, zeroed, delivered, soundOutcome, outcomeOf}
 
 unfoldable pub opened : ℕ
-unfolding geometry.opened abstract.opened saturate _⊞_ emptyPlan after contains hides detailCellsFull detailBudgetExhausted each place countsNamed marksNamed fold referenceDrawUnitsWith foundDrawUnits addReferenceUnits remember cellDrawUnitsWith sourceDrawUnitsWith referenceDrawUnits sourceDrawUnits cellDrawUnits say addLoad pushFoundGeometry pushGeometry pushFoundText pushText pushPoint pushFoundNode pushNode label sourceUnits geometryStep textStep nodeStep referenceStep cellBody visitFoundCell visitSourceWith memberStep columnStep visitCountedReference visitBoxedReference visitSourcedReference visitFoundReference visitReference visitSource visitCell loadRootBox loadRoot visitRoot plan encode putRecord onTape viewOk zoomOk depthOk hasScratch queryRefusal freshPlan tapeOf zeroed delivered soundOutcome outcomeOf
+unfolding grid.opened screen.opened abstract.opened saturate _⊞_ emptyPlan after contains hides detailCellsFull detailBudgetExhausted each place countsNamed marksNamed fold referenceDrawUnitsWith foundDrawUnits addReferenceUnits remember cellDrawUnitsWith sourceDrawUnitsWith referenceDrawUnits sourceDrawUnits cellDrawUnits say addLoad pushFoundGeometry pushGeometry pushFoundText pushText pushPoint pushFoundNode pushNode label sourceUnits geometryStep textStep nodeStep referenceStep cellBody visitFoundCell visitSourceWith memberStep columnStep visitCountedReference visitBoxedReference visitSourcedReference visitFoundReference visitReference visitSource visitCell loadRootBox loadRoot visitRoot plan encode putRecord onTape viewOk zoomOk depthOk hasScratch queryRefusal freshPlan tapeOf zeroed delivered soundOutcome outcomeOf
 opened = 0

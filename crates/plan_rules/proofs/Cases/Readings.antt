@@ -6,8 +6,8 @@ use Prim.Native.Nat.{ℕ, _≤_, _<_}
 use lib.Dec.{leb}
 use lib.Ieee.{Float, lt}
 use borrow.Author.Tests.{le-ltb, lt-leb}
-use Rattle.geometry.specs.declared.screen.CollapseTest.{CollapseTest}
-use Rattle.geometry.specs.Screen.{refLoadThresholdPx, collapseTest, collapses, shouldCollapseReference}
+use Rattle.screen.specs.declared.CollapseTest.{CollapseTest}
+use Rattle.screen.specs.Screen.{refLoadThresholdPx, collapseTest, collapses, shouldCollapseReference}
 use Rattle.plan_rules.specs.Samples.{whole}
 use Rattle.plan_rules.specs.Readings.{readings, AllHold}
 use Rattle.plan_rules.proofs.Cases.Opened.{opened}

@@ -15,8 +15,8 @@ use Rattle.geometry.specs.declared.bbox.Bounds.the-variants.{Absent, Box}
 use Rattle.geometry.specs.declared.placement.Placement.{Placement}
 use Rattle.geometry.specs.Placement.{IDENTITY, transformPoint2, _·_}
 use Rattle.geometry.specs.Bbox.{transformBbox, overlaps, pointInBbox, sourceIsDegenerate, transformBounds, isOutside, bbox}
-use Rattle.geometry.specs.Grid.{gridCount, gridMemberTransform, referenceBbox}
-use Rattle.geometry.specs.Screen.{screenSize, referenceScreenSize, isSubpixel, isDenseBatch, collapseTest, collapses}
+use Rattle.grid.specs.Grid.{gridCount, gridMemberTransform, referenceBbox}
+use Rattle.screen.specs.Screen.{screenSize, referenceScreenSize, isSubpixel, isDenseBatch, collapseTest, collapses}
 use Rattle.walk.specs.Find.{countOf}
 use Rattle.records.specs.declared.PreparedSource.{PreparedSource}
 use Rattle.records.specs.declared.PreparedSource.the-variants.{Geometry, Text, Node, Reference, Cell}

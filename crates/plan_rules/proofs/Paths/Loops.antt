@@ -13,6 +13,10 @@ module _ {A : Type 0} (f : ℕ → World A → Flow A) (n : ℕ) where
   pub each-start : (w : World A) → each f (n - 0) 0 w ≡ each f n 0 w
   each-start w = ap (λ (k : ℕ). each f k 0 w) (sub-zero n)
 
+  -- the same where n is what the code has read
+  pub each-from : (whole : ℕ) (w : World A) → n ≡ whole → each f (n - 0) 0 w ≡ each f whole 0 w
+  each-from whole w e = each-start w ∙ ap (λ (k : ℕ). each f k 0 w) e
+
   module _ (i : ℕ) where
     each-turn : (w : World A) → i < n → each f (n - i) i w ≡ bind (f i w) (each f (n - (i + 1)) (i + 1))
     unfolding each

@@ -8,7 +8,7 @@ use native.Mathlib.Omega.{arith}
 use lib.Dec.{leb}
 use lib.Ieee.{Float}
 use Rattle.geometry.specs.declared.placement.Placement.{Placement}
-use Rattle.geometry.specs.Screen.{collapseTest, collapses}
+use Rattle.screen.specs.Screen.{collapseTest, collapses}
 use Rattle.records.specs.declared.PreparedReference.{PreparedReference}
 use Rattle.plan_rules.specs.declared.Fixed.{Fixed}
 use Rattle.plan_rules.specs.Visit as visit

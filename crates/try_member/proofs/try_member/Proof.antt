@@ -7,11 +7,11 @@ use denote.Ref.{now}
 use mir.Facts.{fits-lt}
 use borrow.Author.Tests.{not-true, not-false}
 use Rattle.geometry.specs.declared.placement.Placement.{Placement}
-use Rattle.geometry.specs.declared.screen.ScreenSize.{ScreenSize}
+use Rattle.screen.specs.declared.ScreenSize.{ScreenSize}
 use Rattle.geometry.specs.Placement.{_·_}
 use Rattle.geometry.specs.Bbox.{transformBbox, overlaps, sourceIsDegenerate}
-use Rattle.geometry.specs.Grid.{gridCount}
-use Rattle.geometry.specs.Screen.{referenceScreenSize, isSubpixel, collapseTest, collapses}
+use Rattle.grid.specs.Grid.{gridCount}
+use Rattle.screen.specs.Screen.{referenceScreenSize, isSubpixel, collapseTest, collapses}
 use Rattle.plan_rules.specs.declared.Reason.{Reason}
 use Rattle.plan_rules.specs.World.{detailBudgetExhausted, world}
 use Rattle.plan_rules.specs.Visit.{collapseReason}

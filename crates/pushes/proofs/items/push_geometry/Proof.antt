@@ -8,9 +8,9 @@ use Prim.Native.Nat.{ℕ}
 use denote.Ref.{now}
 use borrow.Author.Tests.{not-true, not-false}
 use Rattle.geometry.specs.declared.bbox.WorldBBox.{WorldBBox}
-use Rattle.geometry.specs.declared.screen.ScreenSize.{ScreenSize}
+use Rattle.screen.specs.declared.ScreenSize.{ScreenSize}
 use Rattle.geometry.specs.Bbox.{transformBbox, overlaps}
-use Rattle.geometry.specs.Screen.{screenSize, isSubpixel, isDenseBatch}
+use Rattle.screen.specs.Screen.{screenSize, isSubpixel, isDenseBatch}
 use Rattle.abstract_sheet.specs.Sheet.{sheetOf, geometries}
 use Rattle.abstract_sheet.proofs.Lookup.{item-read}
 use Rattle.plan_rules.specs.World.{Query, hides, detailBudgetExhausted, World, world}

@@ -12,7 +12,7 @@ use Rattle.abstract_sheet.specs.Sheet.{nodeRecordAt}
 use Rattle.plan_rules.specs.World.{world, flow, each}
 use Rattle.plan_rules.specs.OnTape.{Given, pushPoint, pushPoints}
 use Rattle.plan_rules.proofs.Paths.Loops.{each-go, each-halt, each-done}
-use Rattle.pushes.proofs.Start.{each-from}
+use Rattle.plan_rules.proofs.Paths.Loops.{each-from}
 use borrow.Author.Needs.{needs}
 use Rattle.pushes.proofs.items.push_points.Statement.{statement}
 use Rattle.pushes.proofs.items.push_points.Tie as tie

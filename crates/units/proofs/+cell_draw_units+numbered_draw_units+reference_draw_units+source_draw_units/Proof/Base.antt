@@ -5,7 +5,7 @@
 use Prim.Native.Nat.{ℕ, _<_, _+_, _*_}
 use borrow.Fn.Kinds.{In}
 use borrow.Fn.PlainCycle.{Measures, is, falls, and}
-use Rattle.geometry.proofs.grid.grid_count.Reads as grid-count-reads
+use Rattle.grid.proofs.grid_count.Reads as grid-count-reads
 use Rattle.look_up.proofs.look_up.Reads as look-up-reads
 use Rattle.records.proofs.cell_at.Reads as cell-at-reads
 use Rattle.records.proofs.cell_reference_at.Reads as cell-reference-at-reads

@@ -5,8 +5,8 @@
 use Prim.Native.Nat.{ℕ, _<_, _+_, _*_}
 use borrow.Fn.Kinds.{In}
 use borrow.Fn.PlainCycle.{Measures, is, falls, and}
-use Rattle.geometry.proofs.grid.grid_count.Reads as grid-count-reads
-use Rattle.pushes.proofs.add_load.Reads as add-load-reads
+use Rattle.grid.proofs.grid_count.Reads as grid-count-reads
+use Rattle.events.proofs.add_load.Reads as add-load-reads
 use Rattle.visit_items.proofs.load_cell.Reads as load-cell-reads
 use Rattle.limits.proofs.detail_budget_exhausted.Reads as detail-budget-exhausted-reads
 use Rattle.pushes.proofs.push_geometry.Reads as push-geometry-reads
@@ -22,8 +22,8 @@ use Rattle.units.proofs.source_units.Reads as source-units-reads
 use Rattle.enter_cell.proofs.enter_cell.Reads as enter-cell-reads
 use Rattle.try_member.proofs.try_member.Reads as try-member-reads
 use Rattle.open_reference.proofs.reference_test.Reads as reference-test-reads
-use Rattle.pushes.proofs.collapse_reason.Reads as collapse-reason-reads
-use Rattle.geometry.proofs.screen.collapses.Reads as collapses-reads
+use Rattle.events.proofs.collapse_reason.Reads as collapse-reason-reads
+use Rattle.screen.proofs.collapses.Reads as collapses-reads
 use Rattle.records.proofs.cell_at.Reads as cell-at-reads
 use Rattle.open_reference.proofs.open_reference.Reads as open-reference-reads
 use Rattle.look_up.proofs.look_up.Reads as look-up-reads

@@ -7,7 +7,7 @@ use native.Mathlib.Omega.{arith}
 use borrow.Author.Needs.{needs}
 use borrow.Author.Tests.{not-true, not-false}
 use lib.ListN.{length}
-use Rattle.geometry.specs.Screen.{collapses}
+use Rattle.screen.specs.Screen.{collapses}
 use Rattle.plan_rules.specs.World.{world, Flow, go, halt, ending, each}
 use Rattle.plan_rules.specs.DrawUnits.{Units, referenceDrawUnits}
 use Rattle.plan_rules.specs.OnTape.{Given, givenBytes, given, Output, visitCountedReference, onSource, onSourceBelow, visitReference, visitSource}

@@ -1,0 +1,4 @@
+-- To compute with the definitions of specs/.
+--     Opened    one name that opens every definition
+-- Assumes nothing.
+pub mod Opened

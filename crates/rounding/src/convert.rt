@@ -1,0 +1,54 @@
+// Conversions to f32, rounded to nearest, ties to even, as Rust's `as` has them. An f32 has 24 digits, its
+// exponent field is 255 at an infinity, and its smallest value is 2^-149.
+ghost use mathlib.Core.Path.{_≡_};
+ghost use mathlib.Core.Bool.{not};
+ghost use lib.Dec.{T};
+ghost use lib.IntN.{pos};
+ghost use lib.Ieee.{binary32, binary64, ofInt, nanBits, ofBits};
+ghost use Rattle.rounding.specs.Narrow.{narrow};
+ghost use Rattle.rounding.specs.Packed.{Encodes};
+use crate::decode::exponent_field_of;
+use crate::decode::exponent_of;
+use crate::decode::significand_of;
+use crate::nearest::leading_zeros;
+use crate::nearest::pack;
+
+// The count n as the nearest f32.
+pub fn u64_to_f32(n: u64) -> f32
+    ensures { λ r. ⌜ r ≡ ofInt binary32 (pos n) ⌝ }
+{
+    if n == 0 {
+        return 0.0;
+    }
+    let s = leading_zeros(n);
+    f32::from_bits(pack(n << s, 149, s, 24, 255) as u32)
+}
+
+// x as the nearest f32.
+pub fn f64_to_f32(x: f64) -> f32
+    ensures { λ r. ⌜ r ≡ narrow x ⌝ }
+{
+    if x != x {
+        0.0 / 0.0
+    } else {
+        f32::from_bits(narrow_pattern(f64::to_bits(x)) as u32)
+    }
+}
+
+// The pattern of the f32 nearest to the f64 of the pattern n. The smallest f32 is 2^925 smallest f64s.
+fn narrow_pattern(n: u64) -> u64
+    requires { ⌜ T (not (nanBits binary64 n)) ⌝ }
+    ensures { λ r. ⌜ Encodes binary32 r (narrow (ofBits binary64 n)) ⌝ }
+{
+    let sign = (n >> 63) << 31;
+    let field = exponent_field_of(n);
+    if field == 0x7ff {
+        return sign | 0x7f80_0000;
+    }
+    let digits = significand_of(n);
+    if digits == 0 {
+        return sign;
+    }
+    let s = leading_zeros(digits);
+    sign | pack(digits << s, exponent_of(n), s + 925, 24, 255)
+}
