@@ -1,7 +1,7 @@
 // Numbers of 128 bits in two words, as the fused sum needs them: product, sum, difference, order, and
 // the two shifts. What a shift cuts off is kept as a sticky bit, so that the number is rounded to odd.
 ghost use mathlib.Core.Path.{_≡_};
-ghost use Prim.Native.Nat.{ℕ, _+_, _-_, _*_, _^_, _≤_, _<_};
+ghost use Prim.Native.Nat.{_+_, _-_, _*_, _^_, _≤_, _<_};
 ghost use lib.Dec.{ltb};
 ghost use Rattle.rounding.specs.RoundToOdd.{RoundsToOdd};
 ghost use Rattle.fused.specs.RoundToOdd.{withSticky};

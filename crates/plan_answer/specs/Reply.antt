@@ -11,8 +11,7 @@ use Rattle.plan_query.specs.declared.QueryRecord.{QueryRecord}
 use Rattle.plan_query.specs.declared.FirstRecord.{FirstRecord}
 use Rattle.plan_query.specs.declared.FirstRecord.the-variants as first
 use Rattle.plan_query.specs.Query.{readQuery}
-use Rattle.plan_rules.specs.Limits.{maxSceneObjects}
-use Rattle.plan_rules.specs.World.{queryOf}
+use Rattle.plan_rules.specs.OnTape.{asked}
 use Rattle.plan_rules.specs.Outcome.{Outcome, outcomeOf}
 use Rattle.plan_answer.specs.declared.Printed.{Printed}
 use Rattle.plan_answer.specs.Text.{outcomeText, tapeEnd, noQueryLine, tooLongLine, textFrom}
@@ -42,7 +41,7 @@ replyOfOutcome c h = record { text = outcomeText c; end = c .tapeLength; hidden 
 
 -- "reads one query .. and then the sheet"
 unfoldable pub replyOfQuery : List ℕ → QueryRecord → List ℕ → List ℕ → List ℕ → List ℕ → Reply
-replyOfQuery s q h o k m = replyOfOutcome (outcomeOf (drop (q .sheet) s) (queryOf (q .options) (take (q .hidden) h) maxSceneObjects) o k m) h
+replyOfQuery s q h o k m = replyOfOutcome (outcomeOf (drop (q .sheet) s) (asked (q .options) (take (q .hidden) h)) o k m) h
 
 -- a line, and nothing touched but the hidden layers
 abbrev pub replyLine : List ℕ → List ℕ → List ℕ → List ℕ → List ℕ → Reply

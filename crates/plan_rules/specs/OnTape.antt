@@ -70,9 +70,13 @@ LeavesFlow whole r out definition s before = (k m : List ℕ) → flow whole (wo
 abbrev pub answers : Answer → RefT (List ℕ) → RefT (List ℕ) → RefT (List ℕ) → outcome.Outcome
 answers a out counts marks = outcome.outcome a (out .now) (counts .now) (marks .now)
 
+-- its query: the options, the hidden layers, and document 01's object limit
+abbrev pub asked : SceneOptions → List ℕ → Query
+asked options hidden = queryOf options hidden maxSceneObjects
+
 -- what the rules have it answer and leave, of a sheet, the options and the hidden layers
 abbrev pub planOutcome : RefT (List ℕ) → SceneOptions → RefT (List ℕ) → RefT (List ℕ) → RefT (List ℕ) → RefT (List ℕ) → outcome.Outcome
-planOutcome sheet options hidden out counts marks = outcome.outcomeOf (sheet .now) (queryOf options (hidden .now) maxSceneObjects) (out .now) (counts .now) (marks .now)
+planOutcome sheet options hidden out counts marks = outcome.outcomeOf (sheet .now) (asked options (hidden .now)) (out .now) (counts .now) (marks .now)
 
 -- ---- events and proxies
 

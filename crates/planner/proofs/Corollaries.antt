@@ -5,7 +5,8 @@ use Rattle.plan_rules.specs.Outcome.{Outcome}
 use Rattle.cover.specs.Demand3.{IsTape}
 use Rattle.cover.proofs.AcceptedCall.{demand-3}
 use Rattle.cover.proofs.Manual.{manual-along-path}
-use Rattle.planner.specs.LosesNothing.{asked, PlanLosesNothing, PlanPlacesByManual}
+use Rattle.plan_rules.specs.OnTape.{asked}
+use Rattle.planner.specs.LosesNothing.{PlanLosesNothing, PlanPlacesByManual}
 
 pub plan-loses-nothing : PlanLosesNothing
 plan-loses-nothing sheet query hidden out counts marks square true-boxes view zoom a out₁ counts₁ marks₁ call =

@@ -1,4 +1,4 @@
--- DEMANDS 2 AND 3 OF `planner::plan`, as a caller has them: `met` is the equation of the entry point's contract, word for word.
+-- DEMANDS 2 AND 3 OF `planner::plan`, as a caller has them: `met` is the equation of the entry point's contract, its names `answers` and `planOutcome` opened.
 -- Definitions only; rests on the rules' outcome of a call and on cover's words.
 use mathlib.Core.Path.{_≡_}
 use mathlib.Core.Bool.{false}
@@ -11,8 +11,7 @@ use Rattle.abstract_sheet.specs.Sheet.{sheetOf}
 use Rattle.exact.specs.Screen.{zoomPower}
 use Rattle.plan_rules.specs.declared.Answer.{Answer}
 use Rattle.plan_rules.specs.declared.SceneOptions.{SceneOptions}
-use Rattle.plan_rules.specs.Limits.{maxSceneObjects}
-use Rattle.plan_rules.specs.World.{Query, queryOf}
+use Rattle.plan_rules.specs.OnTape.{asked}
 use Rattle.plan_rules.specs.Outcome.{numberOf, outcome, outcomeOf}
 use Rattle.paths.specs.Square.{Square}
 use Rattle.paths.specs.TrueBoxes.{TrueBoxes}
@@ -20,10 +19,6 @@ use Rattle.cover.specs.View.{WholeView}
 use Rattle.cover.specs.Trace.{Trace}
 use Rattle.cover.specs.Demand3.{LosesNothing, IsTape}
 use Rattle.cover.specs.Manual.{PlacedByManual}
-
--- the query of a call: its options, and the lent hidden layers
-abbrev pub asked : SceneOptions → List ℕ → Query
-asked query hidden = queryOf query hidden maxSceneObjects
 
 -- an accepted call: what it answered and left is the outcome that the rules define, and its number is 0
 pub record AcceptedCall (sheet : List ℕ) (query : SceneOptions) (hidden out counts marks : List ℕ) (a : Answer) (out₁ counts₁ marks₁ : List ℕ) : Type 0 where

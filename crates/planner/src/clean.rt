@@ -16,7 +16,8 @@ pub fn visit_clean(
     counts: &mut [u64],
     marks: &mut [u8],
 ) -> ScenePlan
-    ensures { λ r. ⌜ lent r (out .exit) (counts .exit) (marks .exit) ≡ swept (given fixed (sheet .entry) (hidden .entry)) (now (out .entry)) (length (now (counts .entry))) (length (now (marks .entry))) ⌝ }
+    ensures { λ r. ⌜ lent r (out .exit) (counts .exit) (marks .exit)
+        ≡ swept (given fixed (sheet .entry) (hidden .entry)) (now (out .entry)) (length (now (counts .entry))) (length (now (marks .entry))) ⌝ }
 {
     scratch::clear_counts(counts);
     scratch::clear_bytes(marks);

@@ -18,7 +18,8 @@ fn plan_sound(
     counts: &mut [u64],
     marks: &mut [u8],
 ) -> Answer
-    ensures { λ r. ⌜ answers r (out .exit) (counts .exit) (marks .exit) ≡ soundOutcome (given fixed (sheet .entry) (hidden .entry)) (now (out .entry)) (now (counts .entry)) (now (marks .entry)) ⌝ }
+    ensures { λ r. ⌜ answers r (out .exit) (counts .exit) (marks .exit)
+        ≡ soundOutcome (given fixed (sheet .entry) (hidden .entry)) (now (out .entry)) (now (counts .entry)) (now (marks .entry)) ⌝ }
 {
     let cells = fixed.counts.cells;
     let depth = fixed.options.depth;
@@ -50,7 +51,8 @@ pub fn plan(
     counts: &mut [u64],
     marks: &mut [u8],
 ) -> Answer
-    ensures { λ r. ⌜ answers r (out .exit) (counts .exit) (marks .exit) ≡ planOutcome (sheet .entry) query (hidden .entry) (out .entry) (counts .entry) (marks .entry) ⌝ }
+    ensures { λ r. ⌜ answers r (out .exit) (counts .exit) (marks .exit)
+        ≡ planOutcome (sheet .entry) query (hidden .entry) (out .entry) (counts .entry) (marks .entry) ⌝ }
 {
     match check_sheet::check_sheet(sheet) {
         Checked::Refused(number, offset) => Answer::Refused(number, offset),

@@ -39,7 +39,8 @@ pub fn visit_root(
     marks: &mut [u8],
     plan: ScenePlan,
 ) -> ScenePlan
-    ensures { λ r. ⌜ lent r (out .exit) (counts .exit) (marks .exit) ≡ visitRoot (given fixed (sheet .entry) (hidden .entry)) (fixed .options .depth) (lent plan (out .entry) (counts .entry) (marks .entry)) ⌝ }
+    ensures { λ r. ⌜ lent r (out .exit) (counts .exit) (marks .exit)
+        ≡ visitRoot (given fixed (sheet .entry) (hidden .entry)) (fixed .options .depth) (lent plan (out .entry) (counts .entry) (marks .entry)) ⌝ }
 {
     if fixed.options.depth == 0 {
         return load_root(sheet, fixed, out, plan);

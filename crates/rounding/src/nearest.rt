@@ -3,7 +3,7 @@
 // `pack` rounds m to nearest, ties to even, at the format's precision, and answers the pattern's
 // magnitude.
 ghost use mathlib.Core.Path.{_≡_};
-ghost use Prim.Native.Nat.{ℕ, _-_, _*_, _^_, _≤_, _<_};
+ghost use Prim.Native.Nat.{_-_, _*_, _^_, _≤_, _<_};
 ghost use lib.Ieee.Nearest.{closest};
 ghost use Rattle.rounding.specs.Packed.{packed};
 

@@ -15,7 +15,7 @@ use Rattle.plan_rules.specs.OnTape.{Given, givenBytes, fixedQuery, query, Outpu
 use Rattle.visit_items.specs.declared.OpenCell.{OpenCell}
 use Rattle.visit_items.specs.declared.lists.ItemList.{ItemList}
 use Rattle.visit_items.specs.declared.lists.ItemList.the-variants.{Geometries, Texts, Nodes}
-use Rattle.visit_items.specs.Lists.{opened, items, counted, pushItem, itemStep, pushList}
+use Rattle.visit_items.specs.Lists.{opened, items, itemCount, pushItem, itemStep, pushList}
 use Rattle.plan_rules.proofs.Paths.Loops.{each-from, each-go, each-halt, each-done}
 use Rattle.plan_rules.proofs.Paths.Cells.{geometry-step-exhausted, geometry-step-goes, text-step-exhausted, text-step-goes, node-step-exhausted, node-step-with-room}
 
@@ -44,7 +44,7 @@ module _ {f : Fixed} (g : Given f) (c : OpenCell) (x : CellRecord) (i : ℕ) (w 
     node-pushed told read pushed = pushed ∙ ap (λ (n : ℕ). pushNode g n (c .transform) w) read ∙ ap (λ (l : ItemList). pushItem g c x l i w) (sym told)
 
 -- the code reads how many items there are
-pub count-read : (s : List ℕ) (c : OpenCell) (list : ItemList) → counted (c .record) list ≡ items list (opened s c) .count
+pub count-read : (s : List ℕ) (c : OpenCell) (list : ItemList) → itemCount (c .record) list ≡ items list (opened s c) .count
 count-read s c Geometries = refl
 count-read s c Texts = refl
 count-read s c Nodes = refl
@@ -52,7 +52,7 @@ count-read s c Nodes = refl
 -- ---- The loop
 
 -- what it keeps: the arguments of its call, and how many items it has read that there are
-pub record Call : Type 0 where
+pub record Arguments : Type 0 where
   pub sheet : List ℕ
   pub fixed : Fixed
   pub hidden : List ℕ
@@ -63,10 +63,10 @@ pub record Call : Type 0 where
   pub count : ℕ
 
 -- what its plan is given
-abbrev pub toPlan : (a : Call) → Given (a .fixed)
+abbrev pub toPlan : (a : Arguments) → Given (a .fixed)
 toPlan a = givenBytes (a .fixed) (a .sheet) (a .hidden)
 
-module _ (a : Call) where
+module _ (a : Arguments) where
   abbrev pub turn : ℕ → Output → Flow (List ℕ)
   turn = itemStep (toPlan a) (a .cell) (opened (a .sheet) (a .cell)) (a .list)
 
@@ -84,7 +84,7 @@ module _ (a : Call) where
 
 -- ---- Each way through it
 
-module _ {a : Call} where
+module _ {a : Arguments} where
   pub starts : a .count ≡ items (a .list) (opened (a .sheet) (a .cell)) .count → Left a (a .out) (a .plan) 0
   starts read = record { within = omega arith; kept = refl; left = λ k m. each-from _ _ _ _ read }
 

@@ -25,10 +25,10 @@ items Geometries x = x .geometries
 items Texts x = x .texts
 items Nodes x = x .nodes
 
-abbrev pub counted : PreparedCell → ItemList → ℕ
-counted r Geometries = r .geometries
-counted r Texts = r .texts
-counted r Nodes = r .nodes
+abbrev pub itemCount : PreparedCell → ItemList → ℕ
+itemCount r Geometries = r .geometries
+itemCount r Texts = r .texts
+itemCount r Nodes = r .nodes
 
 -- its lists by that record
 module _ {f : Fixed} (g : Given f) (c : OpenCell) (x : CellRecord) where

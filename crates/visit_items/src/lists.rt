@@ -14,7 +14,7 @@ use records::PreparedCell;
 ghost use mathlib.Core.Path.{_≡_};
 ghost use Rattle.plan_rules.specs.declared.Reason.the-variants.{OtherLimit};
 ghost use Rattle.plan_rules.specs.OnTape.{given, Leaves, LeavesFlow, addLoadIfBoxed};
-ghost use Rattle.visit_items.specs.Lists.{opened, counted, pushItem, pushList};
+ghost use Rattle.visit_items.specs.Lists.{opened, itemCount, pushItem, pushList};
 
 pub enum ItemList {
     Geometries,
@@ -31,7 +31,7 @@ pub fn load_cell(out: &mut [u8], plan: ScenePlan, cell: OpenCell) -> ScenePlan
 }
 
 fn item_count(cell: PreparedCell, list: ItemList) -> u32
-    ensures { λ r. ⌜ r ≡ counted cell list ⌝ }
+    ensures { λ r. ⌜ r ≡ itemCount cell list ⌝ }
 {
     match list {
         ItemList::Geometries => cell.geometries,

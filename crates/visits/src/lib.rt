@@ -25,7 +25,8 @@ pub fn visit_cell(
     transform: Placement,
     depth: u32,
 ) -> ScenePlan
-    ensures { λ r. ⌜ lent r (out .exit) (counts .exit) (marks .exit) ≡ visitCell (given fixed (sheet .entry) (hidden .entry)) depth cell transform (lent plan (out .entry) (counts .entry) (marks .entry)) ⌝ }
+    ensures { λ r. ⌜ lent r (out .exit) (counts .exit) (marks .exit)
+        ≡ visitCell (given fixed (sheet .entry) (hidden .entry)) depth cell transform (lent plan (out .entry) (counts .entry) (marks .entry)) ⌝ }
 {
     let Found::At(at) = look_up::look_up(sheet, 5, cell) else {
         return plan; // the sheet lacks the cell
@@ -86,7 +87,8 @@ fn visit_reference(
     transform: Placement,
     depth: u32,
 ) -> ScenePlan
-    ensures { λ r. ⌜ lent r (out .exit) (counts .exit) (marks .exit) ≡ visitReference (given fixed (sheet .entry) (hidden .entry)) depth number transform (lent plan (out .entry) (counts .entry) (marks .entry)) ⌝ }
+    ensures { λ r. ⌜ lent r (out .exit) (counts .exit) (marks .exit)
+        ≡ visitReference (given fixed (sheet .entry) (hidden .entry)) depth number transform (lent plan (out .entry) (counts .entry) (marks .entry)) ⌝ }
 {
     let Found::At(at) = look_up::look_up(sheet, 4, number) else {
         return plan; // no sheet that passes question 7 names such a reference
@@ -176,7 +178,8 @@ fn visit_source(
     transform: Placement,
     depth: u32,
 ) -> Visited
-    ensures { λ r. ⌜ flow (r .whole) (lent (r .plan) (out .exit) (counts .exit) (marks .exit)) ≡ visitSource (given fixed (sheet .entry) (hidden .entry)) depth source transform (lent plan (out .entry) (counts .entry) (marks .entry)) ⌝ }
+    ensures { λ r. ⌜ flow (r .whole) (lent (r .plan) (out .exit) (counts .exit) (marks .exit))
+        ≡ visitSource (given fixed (sheet .entry) (hidden .entry)) depth source transform (lent plan (out .entry) (counts .entry) (marks .entry)) ⌝ }
 {
     match source {
         PreparedSource::Cell(cell) => {

@@ -31,8 +31,9 @@ use Rattle.exact.specs.Integer.{Integer, integer, negate, _≼_, isEqual, isAtM
 use Rattle.exact.specs.IsInteger.{IsInteger, integerOf}
 use Rattle.exact.specs.Placement.{Vector, vectorOf}
 use Rattle.exact.specs.Member.{IsQuarterTurn}
-use Rattle.exact.specs.Box.{IntegerBox, SameBox, Inside, pointBox, boxOf}
+use Rattle.exact.specs.Box.{IntegerBox, Inside, pointBox, boxOf}
 use Rattle.exact.proofs.Floats.Rounding.{integer-same}
+use Rattle.exact.proofs.Boxes.Relations.{encloses-both}
 use Rattle.paths.specs.Square.{SquareNumber, SquareVector, SquareBox, SquareBounds, SquareGrid, Square, FewMembers}
 use Rattle.paths.specs.TrueBoxes.{Encloses, EnclosesBounds, IsThere, SameBounds, LeastBox, IsLeastBox, referenceBounds, cellBounds, TrueCellBox, TrueSourceBox, TrueBoxes}
 
@@ -267,18 +268,12 @@ abbrev isThere : Bounds → IntegerBox → Bool
 isThere Absent z = false
 isThere (Box a b c d) z = isInside (boxOf (bbox a b c d)) z && isInside z (boxOf (bbox a b c d))
 
-same-box : (a b : IntegerBox) → Inside a b → Inside b a → SameBox a b
-same-box a b h k =
-    let l = h .left in let r = h .right in let o = h .bottom in let t = h .top in
-    let l′ = k .left in let r′ = k .right in let o′ = k .bottom in let t′ = k .top in
-    record { «min_x» = omega arith; «min_y» = omega arith; «max_x» = omega arith; «max_y» = omega arith }
-
 is-there : (o : Bounds) (z : IntegerBox) → Yes (isThere o z) → IsThere o z
 is-there Absent z h = h
 is-there (Box a b c d) z h =
     let w = boxOf (bbox a b c d) in
     let k = both (isInside w z) _ h in
-    same-box w z (inside w z (k .0)) (inside z w (k .1))
+    encloses-both w z (inside w z (k .0)) (inside z w (k .1))
 
 abbrev sameBounds : Bounds → Bounds → Bool
 sameBounds Absent Absent = true

@@ -8,7 +8,6 @@ use lib.Ieee.{Float, lt}
 use borrow.Author.Tests.{le-ltb, lt-leb}
 use Rattle.screen.specs.declared.CollapseTest.{CollapseTest}
 use Rattle.screen.specs.Screen.{refLoadThresholdPx, collapseTest, collapses, shouldCollapseReference}
-use Rattle.plan_rules.specs.Samples.{whole}
 use Rattle.plan_rules.specs.Readings.{readings, AllHold}
 use Rattle.plan_rules.proofs.Cases.Opened.{opened}
 
@@ -18,10 +17,6 @@ use Rattle.plan_rules.proofs.Cases.Opened.{opened}
 settled : (b : Bool) (x y : CollapseTest) → collapses x ≡ true → collapses y ≡ true → collapses (cond b x y) ≡ true
 settled true x y e f = e
 settled false x y e f = f
-
-threshold : whole 24 ≡ refLoadThresholdPx
-unfolding opened
-threshold = refl
 
 grid-8193-collapses : (w h : Float) (units depth : ℕ) (force : Bool) → shouldCollapseReference w h 8193 units depth force ≡ true
 unfolding shouldCollapseReference collapseTest

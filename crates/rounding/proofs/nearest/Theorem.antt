@@ -1,5 +1,5 @@
 -- The rounding theorem, for both formats together: where a word m with its top bit set is a fraction rounded to odd, the sign and `packed` of m are the pattern of the fraction rounded to nearest.
--- Every operation of this crate that rounds cites `encodes-rounded`.
+-- Every operation that rounds cites `encodes-rounded`: the conversions, and the fused operation of the crate `fused`.
 -- Assumes nothing.
 use mathlib.Core.Path.{_≡_, refl, sym, ap, _∙_, subst}
 use mathlib.Core.Logic.{_⊎_, inl, inr}
