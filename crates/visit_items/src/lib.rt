@@ -1,6 +1,7 @@
 // The batches, texts and nodes of a cell in one call, so that the visit of a cell has one loop left: that over its references.
-use crate::lists::ItemList;
-use crate::lists::push_list;
+use crate::lists::push_geometries;
+use crate::lists::push_nodes;
+use crate::lists::push_texts;
 use geometry::bbox::Bounds;
 use geometry::placement::Placement;
 use plan_rules::Fixed;
@@ -8,7 +9,7 @@ use plan_rules::ScenePlan;
 use records::PreparedCell;
 ghost use Rattle.visit_items.specs.Lists.{LeavesReferences};
 
-mod lists; // the loop over a list
+mod lists; // the loop over each list
 
 pub use lists::load_cell;
 
@@ -37,7 +38,7 @@ pub fn push_items(
 ) -> Listed
     ensures { λ r. ⌜ LeavesReferences (sheet .entry) fixed (hidden .entry) cell r (out .exit) plan (out .entry) ⌝ }
 {
-    let geometries = push_list(sheet, fixed, hidden, out, plan, cell, ItemList::Geometries);
+    let geometries = push_geometries(sheet, fixed, hidden, out, plan, cell);
     let after_geometries = geometries.plan;
     if !geometries.whole {
         return Listed {
@@ -45,15 +46,7 @@ pub fn push_items(
             references: 0,
         };
     }
-    let texts = push_list(
-        sheet,
-        fixed,
-        hidden,
-        out,
-        after_geometries,
-        cell,
-        ItemList::Texts,
-    );
+    let texts = push_texts(sheet, fixed, hidden, out, after_geometries, cell);
     let after_texts = texts.plan;
     if !texts.whole {
         return Listed {
@@ -61,15 +54,7 @@ pub fn push_items(
             references: 0,
         };
     }
-    let nodes = push_list(
-        sheet,
-        fixed,
-        hidden,
-        out,
-        after_texts,
-        cell,
-        ItemList::Nodes,
-    );
+    let nodes = push_nodes(sheet, fixed, hidden, out, after_texts, cell);
     let after_nodes = nodes.plan;
     if !nodes.whole {
         return Listed {

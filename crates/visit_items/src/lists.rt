@@ -1,4 +1,4 @@
-// The loop of `visit_cell` over a list of an open cell, one for its batches, texts and nodes.
+// The loops of `visit_cell` over the batches, texts and nodes of an open cell.
 // At an exhausted budget the cell's box is added, if it has one, and the visit is over.
 use crate::OpenCell;
 use events::add_load_if_boxed;
@@ -10,17 +10,9 @@ use pushes::Visited;
 use pushes::push_geometry;
 use pushes::push_node;
 use pushes::push_text;
-use records::PreparedCell;
-ghost use mathlib.Core.Path.{_≡_};
 ghost use Rattle.plan_rules.specs.declared.Reason.the-variants.{OtherLimit};
 ghost use Rattle.plan_rules.specs.OnTape.{given, Leaves, LeavesFlow, addLoadIfBoxed};
-ghost use Rattle.visit_items.specs.Lists.{opened, itemCount, pushItem, pushList};
-
-pub enum ItemList {
-    Geometries,
-    Texts,
-    Nodes,
-}
+ghost use Rattle.visit_items.specs.Lists.{opened, pushGeometries, pushTexts, pushNodes};
 
 // A limit is met in the visit of a cell.
 pub fn load_cell(out: &mut [u8], plan: ScenePlan, cell: OpenCell) -> ScenePlan
@@ -30,65 +22,17 @@ pub fn load_cell(out: &mut [u8], plan: ScenePlan, cell: OpenCell) -> ScenePlan
     add_load_if_boxed(out, plan, Reason::OtherLimit, cell.number, bounds)
 }
 
-fn item_count(cell: PreparedCell, list: ItemList) -> u32
-    ensures { λ r. ⌜ r ≡ itemCount cell list ⌝ }
-{
-    match list {
-        ItemList::Geometries => cell.geometries,
-        ItemList::Texts => cell.texts,
-        ItemList::Nodes => cell.nodes,
-    }
-}
-
-// Item i of a list.
-fn push_item(
+pub fn push_geometries(
     sheet: &[u8],
     fixed: Fixed,
     hidden: &[u32],
     out: &mut [u8],
     plan: ScenePlan,
     cell: OpenCell,
-    list: ItemList,
-    i: u32,
 ) -> Visited
-    ensures { λ r. ⌜ LeavesFlow (r .whole) (r .plan) (out .exit) (pushItem (given fixed (sheet .entry) (hidden .entry)) cell (opened (now (sheet .entry)) cell) list i) plan (out .entry) ⌝ }
+    ensures { λ r. ⌜ LeavesFlow (r .whole) (r .plan) (out .exit) (pushGeometries (given fixed (sheet .entry) (hidden .entry)) cell (opened (now (sheet .entry)) cell)) plan (out .entry) ⌝ }
 {
-    match list {
-        ItemList::Geometries => {
-            let number = records::cell_geometry_at(sheet, cell.at, i);
-            let next = push_geometry(sheet, fixed, hidden, out, plan, number, cell.transform);
-            Visited {
-                plan: next,
-                whole: true,
-            }
-        }
-        ItemList::Texts => {
-            let number = records::cell_text_at(sheet, cell.at, i);
-            let next = push_text(sheet, fixed, hidden, out, plan, number, cell.transform);
-            Visited {
-                plan: next,
-                whole: true,
-            }
-        }
-        ItemList::Nodes => {
-            let number = records::cell_node_at(sheet, cell.at, i);
-            push_node(sheet, fixed, hidden, out, plan, number, cell.transform)
-        }
-    }
-}
-
-pub fn push_list(
-    sheet: &[u8],
-    fixed: Fixed,
-    hidden: &[u32],
-    out: &mut [u8],
-    plan: ScenePlan,
-    cell: OpenCell,
-    list: ItemList,
-) -> Visited
-    ensures { λ r. ⌜ LeavesFlow (r .whole) (r .plan) (out .exit) (pushList (given fixed (sheet .entry) (hidden .entry)) cell (opened (now (sheet .entry)) cell) list) plan (out .entry) ⌝ }
-{
-    let count = item_count(cell.record, list);
+    let count = cell.record.geometries;
     let mut next = plan;
     let mut i: u32 = 0;
     while i < count {
@@ -98,7 +42,68 @@ pub fn push_list(
                 whole: false,
             };
         }
-        let visited = push_item(sheet, fixed, hidden, out, next, cell, list, i);
+        let number = records::cell_geometry_at(sheet, cell.at, i);
+        next = push_geometry(sheet, fixed, hidden, out, next, number, cell.transform);
+        i += 1;
+    }
+    Visited {
+        plan: next,
+        whole: true,
+    }
+}
+
+pub fn push_texts(
+    sheet: &[u8],
+    fixed: Fixed,
+    hidden: &[u32],
+    out: &mut [u8],
+    plan: ScenePlan,
+    cell: OpenCell,
+) -> Visited
+    ensures { λ r. ⌜ LeavesFlow (r .whole) (r .plan) (out .exit) (pushTexts (given fixed (sheet .entry) (hidden .entry)) cell (opened (now (sheet .entry)) cell)) plan (out .entry) ⌝ }
+{
+    let count = cell.record.texts;
+    let mut next = plan;
+    let mut i: u32 = 0;
+    while i < count {
+        if detail_budget_exhausted(fixed, next) {
+            return Visited {
+                plan: load_cell(out, next, cell),
+                whole: false,
+            };
+        }
+        let number = records::cell_text_at(sheet, cell.at, i);
+        next = push_text(sheet, fixed, hidden, out, next, number, cell.transform);
+        i += 1;
+    }
+    Visited {
+        plan: next,
+        whole: true,
+    }
+}
+
+pub fn push_nodes(
+    sheet: &[u8],
+    fixed: Fixed,
+    hidden: &[u32],
+    out: &mut [u8],
+    plan: ScenePlan,
+    cell: OpenCell,
+) -> Visited
+    ensures { λ r. ⌜ LeavesFlow (r .whole) (r .plan) (out .exit) (pushNodes (given fixed (sheet .entry) (hidden .entry)) cell (opened (now (sheet .entry)) cell)) plan (out .entry) ⌝ }
+{
+    let count = cell.record.nodes;
+    let mut next = plan;
+    let mut i: u32 = 0;
+    while i < count {
+        if detail_budget_exhausted(fixed, next) {
+            return Visited {
+                plan: load_cell(out, next, cell),
+                whole: false,
+            };
+        }
+        let number = records::cell_node_at(sheet, cell.at, i);
+        let visited = push_node(sheet, fixed, hidden, out, next, number, cell.transform);
         next = visited.plan;
         if !visited.whole {
             return Visited {
