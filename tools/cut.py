@@ -1,99 +1,84 @@
 #!/usr/bin/env python3
-"""cut.py FILE: writes the query and the sheet that FILE describes, as the program `plan` reads them, to standard output.
+"""Usage: cut.py FILE
 
-A line is a record: its kind, then words `name=value`. Numbers of a list are parted by commas, points by semicolons; `#` starts a remark.
-Items count from 0 within their kind, in the order of the lines.
+Writes the query and the sheet that FILE describes, as the program plan reads them, to standard output. FILE `-` is standard
+input. A line describes one record: its kind, then words name=value in any order. Words in [] may be left out.
 
-    query      root depth view zoom [hidden=LAYER/TYPE,..]
+    query      root depth view zoom [hidden=LAYER/TYPE,LAYER/TYPE]
     batch      layer type elements box
     text       layer type at [value]
     node       layer type points
-    reference  source=KIND:NUMBER at [columns rows dx dy] [reflect=1] [mag] [cos sin] [box]
+    reference  source=KIND:NUMBER at [columns rows dx dy] [reflect] [mag] [cos sin] [box]
     cell       [box] [units] [batches] [texts] [nodes] [references]
 
-docs/FORMATS.md has the formats. Nothing is checked here: `plan` refuses a faulty sheet.
+Items count from 0 within their kind, in the order of the lines. Boxes of references and cells are computed; box=none leaves
+one out. A value with blanks stands in quotes. `#` at the start of a word starts a remark. docs/SHEETS.md explains each word.
+
+A faulty description gives one message FILE:LINE: WHAT on standard error, nothing on standard output, and status 2.
 """
-import struct
+import os
+import signal
 import sys
 
-KINDS = {"batch": 1, "text": 2, "node": 3, "reference": 4, "cell": 5}
+from cutter.lines import Fault
+from cutter.records import cut
+
+STATUS_FAULT = 2
 
 
-def numbers(value):
-    return [float(n) for n in value.replace(";", ",").split(",")]
+def put(stream, data):
+    """Writes all of it, past Python's buffers, which would be written once more at the end and fail there."""
+    while data:
+        data = data[os.write(stream, data):]
 
 
-def items(value):
-    return [int(n) for n in value.split(",")] if value else []
+def read(path):
+    standard = path == "-"
+    with open(0 if standard else path, "rb", closefd=not standard) as file:
+        return file.read()
 
 
-def record(kind, body):
-    return struct.pack("<IH", len(body) + 6, kind) + body
+def decoded(data):
+    try:
+        return data.decode().removeprefix("\ufeff")
+    except UnicodeDecodeError as fault:
+        raise Fault("no UTF-8", data.count(b"\n", 0, fault.start) + 1)
 
 
-def floats(values):
-    return struct.pack("<%dd" % len(values), *values)
+def run(path):
+    """The bytes to write, or a message."""
+    name = "standard input" if path == "-" else path
+    try:
+        return cut(decoded(read(path))), None
+    except Fault as fault:
+        return b"", "%s: %s" % (name if fault.line is None else "%s:%d" % (name, fault.line), fault)
+    except OSError as fault:
+        return b"", "%s: %s" % (name, fault.strerror)
 
 
-def box(word):
-    return floats(numbers(word["box"])) if "box" in word else bytes(32)
+def fail(message):
+    try:
+        put(2, (message + "\n").encode(errors="surrogateescape"))
+    except OSError:
+        pass  # the status is left to say it
+    return STATUS_FAULT
 
 
-def query(word):
-    hidden = [pair.split("/") for pair in word.get("hidden", "").split(",") if pair]
-    body = struct.pack("<II", int(word["root"]), int(word["depth"]))
-    body += floats(numbers(word["view"]) + numbers(word["zoom"]))
-    return record(20, body + b"".join(struct.pack("<I", int(l) * 65536 + int(t)) for l, t in hidden))
-
-
-def layer(word):
-    return struct.pack("<HH", int(word["layer"]), int(word["type"]))
-
-
-def batch(word):
-    return record(1, layer(word) + struct.pack("<I", int(word["elements"])) + box(word))
-
-
-def text(word):
-    return record(2, layer(word) + floats(numbers(word["at"])) + word.get("value", "").encode())
-
-
-def node(word):
-    return record(3, layer(word) + floats(numbers(word["points"])))
-
-
-def reference(word):
-    kind, number = word["source"].split(":")
-    flags = (1 if word.get("reflect") == "1" else 0) + (2 if "box" in word else 0)
-    body = struct.pack("<HHHHI", int(word.get("columns", 1)), int(word.get("rows", 1)), flags, KINDS[kind], int(number))
-    for name, default in (("at", "0,0"), ("dx", "0,0"), ("dy", "0,0"), ("mag", "1"), ("cos", "1"), ("sin", "0")):
-        body += floats(numbers(word.get(name, default)))
-    return record(4, body + box(word))
-
-
-def cell(word):
-    lists = [items(word.get(name, "")) for name in ("batches", "texts", "nodes", "references")]
-    body = struct.pack("<HQ", 1 if "box" in word else 0, int(word.get("units", 0))) + box(word)
-    body += struct.pack("<4H", *map(len, lists))
-    return record(5, body + b"".join(struct.pack("<I", n) for numbers in lists for n in numbers))
-
-
-MAKERS = {"query": query, "batch": batch, "text": text, "node": node, "reference": reference, "cell": cell}
-
-
-def main():
-    if len(sys.argv) != 2:
-        sys.exit(__doc__)
-    out = b""
-    for at, line in enumerate(open(sys.argv[1], encoding="utf-8"), 1):
-        words = line.split("#")[0].split()
-        if words:
-            try:
-                out += MAKERS[words[0]](dict(w.split("=", 1) for w in words[1:]))
-            except (KeyError, ValueError, struct.error) as fault:
-                sys.exit("%s:%d: %s: %s" % (sys.argv[1], at, type(fault).__name__, fault))
-    sys.stdout.buffer.write(out)
+def main(arguments):
+    data, message = b"", None
+    if arguments in (["--help"], ["-h"]):
+        data = __doc__.encode()
+    elif len(arguments) != 1 or arguments[0].startswith("-") and arguments[0] != "-":
+        message = "usage: cut.py FILE (cut.py --help says more)"
+    else:
+        data, message = run(arguments[0])
+    try:
+        put(1, data)
+    except OSError as fault:
+        message = "standard output: %s" % fault.strerror
+    return 0 if message is None else fail(message)
 
 
 if __name__ == "__main__":
-    main()
+    signal.signal(signal.SIGINT, signal.SIG_DFL)
+    sys.exit(main(sys.argv[1:]))
