@@ -20,7 +20,7 @@ def mul_add(a, b, c):
     try:
         return float(exact)
     except OverflowError:
-        return math.copysign(math.inf, exact)
+        return math.inf if exact > 0 else -math.inf
 
 
 def grid_member_transform(grid, column, row):
@@ -118,9 +118,11 @@ def needs(records, kind, record):
 def circle(found, places):
     """The message on a circle. Its cells are named by their numbers; the line is that of the first."""
     cells = sorted({n for kind, n in found if kind == "cell"})
-    named = "cell %d places itself" % cells[0] if len(cells) == 1 else "cells %s place each other" % ", ".join(map(str, cells))
-    what = "%s in a circle, so no least box can be computed; give one of them box=MIN X,MIN Y,MAX X,MAX Y by hand"
-    return Fault(what % named, places["cell"][cells[0]])
+    named, given = "cell %d places itself" % cells[0], "it"
+    if len(cells) > 1:
+        named, given = "cells %s place each other" % ", ".join(map(str, cells)), "one of them"
+    what = "%s in a circle, so no least box can be computed; give %s box=MIN X,MIN Y,MAX X,MAX Y by hand" % (named, given)
+    return Fault(what, places["cell"][cells[0]])
 
 
 def in_order(records, places):
