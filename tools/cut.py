@@ -33,8 +33,7 @@ def put(stream, data):
 
 
 def read(path):
-    standard = path == "-"
-    with open(0 if standard else path, "rb", closefd=not standard) as file:
+    with open(0 if path == "-" else path, "rb") as file:
         return file.read()
 
 

@@ -2,7 +2,7 @@
 import re
 
 # A remark to the end, or a word `name=value`, its value in quotes or without blanks and quotes; then a blank or the end.
-WORD = re.compile(r'(#.*)|([^\s="#][^\s="]*)(?:=("(?:[^"\\]|\\["\\])*"|[^\s"]*))?(?=\s|$)', re.ASCII)
+WORD = re.compile(r'(#.*)|([^\s="]+)(?:=("(?:[^"\\]|\\["\\])*"|[^\s"]*))?(?=\s|$)', re.ASCII)
 QUOTES = 'a value with blanks stands in quotes, in which \\" is a quote and \\\\ a backslash'
 BLANKS = re.compile(r"\s*", re.ASCII)
 

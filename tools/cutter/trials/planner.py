@@ -1,0 +1,130 @@
+"""Held against a built program plan: computed boxes, what cut.py leaves to plan, and the facts of docs/SHEETS.md."""
+import math
+import random
+import subprocess
+
+from cutter.records import cut
+from cutter.trials.rounded import double
+from cutter.trials.support import file_text, same
+
+
+def printed(plan, description):
+    return subprocess.run([plan], input=cut(description), stdout=subprocess.PIPE, check=True).stdout.decode()
+
+
+# ---- boxes of sheets that are not square
+
+def random_turned(random):
+    """Cells 0 to 2, each but the first of references to the one before, with fractions, magnifications and any angle."""
+    def real(n):
+        small = random.uniform(-n, n) * 2.0**random.randint(-60, 9)
+        return repr(random.choice((random.uniform(-n, n), float(random.randint(-9, 9)), small)))
+
+    def placed(cell):
+        angle, factors = random.uniform(0, 7), (random.uniform(-2, 2), random.uniform(-2, 2))
+        cos, sin = random.choice(((math.cos(angle), math.sin(angle)), factors, (0.0, -1.0)))
+        return "reference source=cell:%d at=%s,%s columns=%d rows=%d dx=%s,%s dy=%s,%s reflect=%d mag=%r cos=%r sin=%r" % (
+            cell, real(99), real(99), random.randint(1, 40), random.choice((1, 2, 32767)), real(9), real(9), real(9), real(9),
+            random.randint(0, 1), random.choice((1.0, 0.5, random.uniform(0, 3))), cos, sin)
+    points = ";".join("%s,%s" % (real(99), real(99)) for _ in range(3))
+    cells = ["node layer=1 type=0 points=" + points, "cell nodes=0", placed(0), "cell references=0"]
+    return "\n".join(cells + [placed(1), placed(1), "cell references=1,2"])
+
+
+def planned_boxes(plan, root, depth, sheet):
+    """The boxes of the proxies that the program prints."""
+    query = "query root=%d depth=%d view=-1e300,-1e300,1e300,1e300 zoom=1\n" % (root, depth)
+    proxies = [line.split()[2:] for line in printed(plan, query + sheet).splitlines() if line.startswith("proxy")]
+    return [tuple(map(double, proxy)) for proxy in proxies]
+
+
+def merged(found):
+    sides = list(zip(*found))
+    return min(sides[0]), min(sides[1]), max(sides[2]), max(sides[3])
+
+
+def try_boxes(plan, count):
+    """At depth 0 plan prints the root's own box, at depth 1 the boxes that it computes of the root's references."""
+    wrong = []
+    for seed in range(count):
+        sheet = random_turned(random.Random(seed))
+        for root in (1, 2):
+            own, references = planned_boxes(plan, root, 0, sheet), planned_boxes(plan, root, 1, sheet)
+            if len(references) != root or own != [merged(references)]:
+                wrong.append((seed, root, own, references))
+    same("boxes of %d random sheets, as the planner computes them" % count, wrong, [])
+
+
+# ---- what the page says of plans: a query's words, a sheet, and what is printed, without the floats
+
+TEXT = "text layer=1 type=0 at=5,5\n"
+SHAPE = "batch layer=1 type=0 elements=1 box=0,0,%s,%s\n"
+NEAR = "root=0 depth=8 view=0,0,9,9 zoom=1"
+ROOT_1 = "root=1 depth=8 view=0,0,9,9 zoom=1"
+FACTS = [
+    ("a reference without a source box", ROOT_1, TEXT + "cell texts=0\nreference source=cell:0 at=0,0 box=none\ncell references=0",
+     "totals 1 0 0 0 0 0"),
+    ("a reference to a cell without a box", ROOT_1, TEXT + "cell box=none texts=0\nreference source=cell:0 at=0,0\ncell references=0",
+     "totals 1 0 0 0 0 0"),
+    ("the same with a source box by hand", ROOT_1,
+     TEXT + "cell box=none texts=0\nreference source=cell:0 at=0,0 box=0,0,50,50\ncell references=0", "text 0, totals 2 1 0 0 0 0"),
+    ("a root without a box", NEAR, TEXT + "cell box=none texts=0", "text 0, totals 1 1 0 0 0 0"),
+    ("at depth 0", NEAR.replace("depth=8", "depth=0"), TEXT + "cell box=none texts=0", "totals 0 0 0 0 0 0"),
+    ("a root with a box, at depth 0", NEAR.replace("depth=8", "depth=0"), TEXT + "cell texts=0", "proxy 0, totals 0 0 0 0 0 0"),
+    ("a box that is too small", NEAR, TEXT + "cell box=20,20,30,30 texts=0", "totals 0 0 0 0 0 0"),
+    ("a missing cell", NEAR, "reference source=cell:7 at=0,0\ncell references=0", "totals 1 0 0 0 0 0"),
+    ("a missing cell with a box", NEAR, "reference source=cell:7 at=0,0 box=0,0,5,5\ncell references=0", "proxy 7, totals 1 0 0 0 0 0"),
+    ("a lone reference under a pixel", ROOT_1.replace("zoom=1", "zoom=0.01"),
+     SHAPE % (9, 9) + "cell batches=0\nreference source=cell:0 at=0,0\ncell references=0", "proxy 0, totals 1 0 0 0 0 0"),
+    ("a batch on one point", NEAR.replace("zoom=1", "zoom=1e30"), SHAPE % (0, 0) + "cell batches=0", "totals 1 0 0 0 0 1"),
+    ("a batch of no width", NEAR, SHAPE % (0, 1) + "cell batches=0", "batch 0, totals 1 1 0 0 0 0"),
+    ("number 4, columns", NEAR, "reference source=cell:0 at=0,0 columns=32768", "refused 4 0"),
+    ("number 4, cell FFFFFFFF", NEAR, "reference source=cell:4294967295 at=0,0", "refused 4 0"),
+    ("number 7", NEAR, "cell\n" * 4097, "refused 7 0"),
+    ("number 8", NEAR.replace("view=0,0,9,9", "view=9,0,0,9"), "cell", "refused 8 0"),
+    ("number 9", NEAR.replace("zoom=1", "zoom=0"), "cell", "refused 9 0"),
+    ("number 10", NEAR.replace("depth=8", "depth=33"), "cell", "refused 10 0"),
+]
+
+
+def shortened(text):
+    """A plan's lines without their floats, parted by commas."""
+    lines = [line.split() for line in text.splitlines()]
+    return ", ".join(" ".join(words if words[0] in ("totals", "refused") else words[:2]) for words in lines)
+
+
+def try_facts(plan):
+    for what, query, sheet, expected in FACTS:
+        same(what, shortened(printed(plan, "query %s\n%s" % (query, sheet))), expected)
+    many = TEXT + "cell %s texts=" + ",".join(["0"] * 10001)
+    for words, last in (("", "proxy 0, totals 1 10000 0 0 0 0"), ("box=none", "text 0, totals 1 10000 0 0 0 0")):
+        lines = printed(plan, "query %s\n%s" % (NEAR, many % words)).splitlines()[-2:]
+        same("10,001 texts in a cell with %s" % words, shortened("\n".join(lines)), last)
+
+
+def try_zoom(plan):
+    """A batch and a cell of one unit, a text, a point, and a reference to the text, at zooms around the greatest f32."""
+    sheet = (SHAPE % (1, 1) + SHAPE % (1, 1) + TEXT.replace("5,5", "1,1") + "node layer=2 type=0 points=1,1\n"
+             "cell batches=1\nreference source=cell:0 at=0,0\nreference source=text:0 at=0,0\n"
+             "cell batches=0 texts=0 nodes=0 references=0,1")
+    listed, skipped = "batch 0, text 0, point 2, batch 1, text 0, totals 2 5 0 0 0 0", "text 0, point 2, text 0, totals 1 3 0 1 0 1"
+    infinite = 2.0**128 - 2.0**103
+    zooms = {2.0**64: listed, 2.0**100: listed, 2.0**127: listed, math.nextafter(infinite, 0): listed,
+             infinite: skipped, 2.0**128: skipped, 1e300: skipped}
+    for zoom, expected in zooms.items():
+        found = printed(plan, "query root=1 depth=8 view=0,0,9,9 zoom=%r\n%s" % (zoom, sheet))
+        same("zoom %r" % zoom, shortened(found), expected)
+
+
+def try_page(plan):
+    """The page shows the plan of samples/outcomes.txt whole, as an indented block."""
+    found = printed(plan, file_text("samples", "outcomes.txt"))
+    block = "".join("    %s\n" % line for line in found.splitlines())
+    same("the plan in docs/SHEETS.md", block in file_text("docs", "SHEETS.md"), True)
+
+
+def run(plan):
+    try_boxes(plan, 100)
+    try_facts(plan)
+    try_zoom(plan)
+    try_page(plan)
