@@ -112,7 +112,10 @@ def check_numbers(records, places):
     for kind in ("reference", "cell"):
         for n, record in enumerate(records[kind]):
             try:
-                check_lists(records, record) if kind == "cell" else check_source(records, n, *record["source"])
+                if kind == "cell":
+                    check_lists(records, record)
+                else:
+                    check_source(records, n, *record["source"])
             except Fault as fault:
                 raise Fault(str(fault), places[kind][n])
 

@@ -9,6 +9,9 @@ from cutter.trials.support import QUERY, ROOT, ran, same
 
 QUOTES = 'a value with blanks stands in quotes, in which \\" is a quote and \\\\ a backslash'
 REFERENCE_WORDS = "source, at, columns, rows, dx, dy, reflect, mag, cos, sin, box"
+SHAPE = "batch layer=1 type=0 elements=1 box=0,0,1e308,1\n"
+TEXT = "text layer=1 type=0 at=0,0\n"
+OVERFLOW = "a step towards its box is beyond the greatest float; give box=MIN X,MIN Y,MAX X,MAX Y by hand"
 CIRCLE = "%s in a circle, so no least box can be computed; give %s box=MIN X,MIN Y,MAX X,MAX Y by hand"
 MESSAGES = [
     ("cel", 2, 'unknown kind "cel"; known are query, batch, text, node, reference, cell'),
@@ -51,10 +54,12 @@ MESSAGES = [
     ('text layer=1 type=0 at=0,0 value=6"', 2, 'cannot read value=6": ' + QUOTES),
     ('text layer=1 type=0 at=0,0 value="\\n"', 2, 'cannot read value="\\n": ' + QUOTES),
     ("cell references=0\nreference source=cell:0 at=1,0", 2, CIRCLE % ("cell 0 places itself", "it")),
-    ("cell\ncell references=0\nreference source=cell:2 at=1,0\nreference source=reference:0 at=0,0\ncell references=2\n"
-     "reference source=cell:1 at=0,0", 3, CIRCLE % ("cells 1, 2 place each other", "one of them")),
-    ("batch layer=1 type=0 elements=1 box=0,0,1e308,1\nreference source=batch:0 at=1e308,0\ncell references=0", 4,
-     "a step towards its box is beyond the greatest float; give box=MIN X,MIN Y,MAX X,MAX Y by hand"),
+    ("cell\ncell references=1\nreference source=cell:8 at=1,0\nreference source=reference:0 at=0,0\n" + "cell\n" * 6
+     + "cell references=2\nreference source=cell:1 at=0,0", 3, CIRCLE % ("cells 1, 8 place each other", "one of them")),
+    (SHAPE + "reference source=batch:0 at=1e308,0\ncell references=0", 4, OVERFLOW),
+    (TEXT + "reference source=text:0 at=0,0 columns=3 dx=1e308,0 cos=0.6 sin=0.8\ncell references=0", 4, OVERFLOW),
+    (TEXT + "reference source=text:0 at=0,0 columns=2 dx=1,1e308 cos=0.6 sin=8\ncell references=0", 4, OVERFLOW),
+    (SHAPE + "reference source=batch:0 at=0,0 mag=1e308 cos=1e300 sin=0\ncell references=0", 4, OVERFLOW),
 ]
 
 

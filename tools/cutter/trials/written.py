@@ -27,7 +27,10 @@ def try_bytes():
 
 
 def try_quotes():
-    values = {'"PAD 1"': "PAD 1", '"a # b"': "a # b", "A#1": "A#1", '""': "", "": "", r'"\"\\"': '"\\', "\\n": "\\n", "PAD # x": "PAD"}
+    values = {
+        '"PAD 1"': "PAD 1", '"a # b"': "a # b", "A#1": "A#1", "PAD # x": "PAD", '""': "", "": "", r'"\"\\"': '"\\', "\\n": "\\n",
+        "no-break\u00a0blank": "no-break\u00a0blank", '"line\u2028separator"': "line\u2028separator",
+    }
     for written, value in values.items():
         found = records(cut(QUERY + "text layer=1 type=0 at=1,2 value=%s\n" % written))[2][0][20:]
         same("value=%s" % written, found.decode(), value)
