@@ -59,6 +59,7 @@ MESSAGES = [
     (SHAPE + "reference source=batch:0 at=1e308,0\ncell references=0", 4, OVERFLOW),
     (TEXT + "reference source=text:0 at=0,0 columns=3 dx=1e308,0 cos=0.6 sin=0.8\ncell references=0", 4, OVERFLOW),
     (TEXT + "reference source=text:0 at=0,0 columns=2 dx=1,1e308 cos=0.6 sin=8\ncell references=0", 4, OVERFLOW),
+    (TEXT + "reference source=text:0 at=0,0 columns=2 dx=1,1e308 cos=8 sin=0.6\ncell references=0", 4, OVERFLOW),
     (SHAPE + "reference source=batch:0 at=0,0 mag=1e308 cos=1e300 sin=0\ncell references=0", 4, OVERFLOW),
 ]
 

@@ -65,8 +65,8 @@ ITEMS = ("batch layer=1 type=0 elements=300 box=0,0,4,2\nbatch layer=1 type=0 el
 def try_words_box():
     """The box of a reference to each kind of source, and what `box=` changes."""
     sources = {
-        "batch:0": (0, 0, 4, 2), "batch:1": None, "text:0": (5, 6, 5, 6), "node:0": (2, 1, 7, 9), "cell:0": (0, 0, 7, 9), "cell:1": None,
-        "batch:0 box=none": None, "batch:1 box=1,2,3,4": (1, 2, 3, 4), "cell:0 box=-1,0,9,9": (-1, 0, 9, 9),
+        "batch:0": (0, 0, 4, 2), "batch:1": None, "text:0": (5, 6, 5, 6), "node:0": (2, 1, 7, 9),
+        "cell:0": (0, 0, 7, 9), "cell:1": None, "batch:0 box=none": None, "batch:1 box=1,2,3,4": (1, 2, 3, 4), "cell:0 box=-1,0,9,9": (-1, 0, 9, 9),
     }
     cell = "cell batches=0,1 texts=0 nodes=0\n"
     for source, box in sources.items():
