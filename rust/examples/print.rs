@@ -1,10 +1,13 @@
 //! Prints a plan as the program `plan` does: print [FILE], without a file from standard input.
 //! The input is a query as a record of kind 20, and then the sheet.
+//! Input that cannot be read, and output that cannot be written, end it with a message and status 1.
 
-use std::fs;
-use std::io::{self, Read, Write};
+use std::env;
+use std::fs::File;
+use std::io::{self, BufWriter, Read, Write};
+use std::process::ExitCode;
 
-use ribaltzen::{Buffers, Placement, Query, Record, WorldBBox, plan};
+use ribaltzen::{Buffers, Query, WorldBBox, plan};
 
 /// The query, its hidden layers and the sheet, if the first record is a whole query.
 fn split(input: &[u8]) -> Option<(Query<'static>, Vec<u32>, &[u8])> {
@@ -15,100 +18,55 @@ fn split(input: &[u8]) -> Option<(Query<'static>, Vec<u32>, &[u8])> {
         return None;
     }
     let (record, sheet) = input.split_at_checked(length)?;
-    let view = WorldBBox {
-        min_x: f64_at(14)?,
-        min_y: f64_at(22)?,
-        max_x: f64_at(30)?,
-        max_y: f64_at(38)?,
-    };
-    let query = Query {
-        root: u32_at(6)?,
-        depth: u32_at(10)?,
-        view,
-        zoom: f64_at(46)?,
-        hidden: &[],
-    };
+    let view = WorldBBox::new(f64_at(14)?, f64_at(22)?, f64_at(30)?, f64_at(38)?);
+    let query = Query::new(u32_at(6)?, u32_at(10)?, view, f64_at(46)?);
     let hidden = record[54..]
         .chunks_exact(4)
-        .map(|bytes| u32::from_le_bytes(bytes.try_into().unwrap()));
+        .map(|bytes| u32::from_le_bytes(bytes.try_into().expect("four bytes")));
     Some((query, hidden.collect(), sheet))
 }
 
-/// "floats as 16 hexadecimal digits, all else decimal, an absent label as `none`"
-fn line(record: Record) -> String {
-    let floats = |values: &[f64]| -> String {
-        values
-            .iter()
-            .map(|value| format!(" {:016x}", value.to_bits()))
-            .collect()
-    };
-    match record {
-        Record::Batch {
-            number,
-            placement:
-                Placement {
-                    x_axis,
-                    y_axis,
-                    translation,
-                },
-        } => {
-            format!(
-                "batch {number}{}",
-                floats(&[x_axis, y_axis, translation].concat())
-            )
-        }
-        Record::Text { number, position } => format!("text {number}{}", floats(&position)),
-        Record::Point {
-            layer,
-            node_type,
-            position,
-        } => {
-            format!("point {layer} {node_type}{}", floats(&position))
-        }
-        Record::Proxy { label, bbox } => {
-            let label = label.map_or("none".to_string(), |label| label.to_string());
-            format!(
-                "proxy {label}{}",
-                floats(&[bbox.min_x, bbox.min_y, bbox.max_x, bbox.max_y])
-            )
-        }
-        Record::Totals(totals) => format!(
-            "totals {} {} {} {} {} {}",
-            totals.detail_cells,
-            totals.detail_objects,
-            totals.culled_references,
-            totals.skipped_references,
-            totals.culled_batches,
-            totals.skipped_batches
-        ),
-    }
-}
-
-fn answer(input: &[u8]) -> String {
+fn answer(input: &[u8], mut to: impl Write) -> io::Result<()> {
     let Some((query, hidden, sheet)) = split(input) else {
-        return "no query\n".to_string();
+        return writeln!(to, "no query");
     };
-    let mut buffers = Buffers::new();
-    match plan(
-        sheet,
-        &Query {
-            hidden: &hidden,
-            ..query
-        },
-        buffers.lend(),
-    ) {
-        Ok(plan) => plan.records().map(|record| line(record) + "\n").collect(),
-        Err(refusal) => format!("refused {} {}\n", refusal.number, refusal.offset),
+    let query = Query {
+        hidden: &hidden,
+        ..query
+    };
+    match plan(sheet, &query, Buffers::new().lend()) {
+        Ok(plan) => plan
+            .records()
+            .try_for_each(|record| writeln!(to, "{record}")),
+        Err(refusal) => writeln!(to, "refused {} {}", refusal.number, refusal.offset),
     }
 }
 
-fn main() -> io::Result<()> {
+fn read() -> io::Result<Vec<u8>> {
     let mut input = Vec::new();
-    match std::env::args().nth(1) {
-        Some(file) => input = fs::read(file)?,
-        None => {
-            io::stdin().read_to_end(&mut input)?;
+    match env::args_os().nth(1) {
+        Some(file) => File::open(file)?.read_to_end(&mut input)?,
+        None => io::stdin().lock().read_to_end(&mut input)?,
+    };
+    Ok(input)
+}
+
+fn write(input: &[u8]) -> io::Result<()> {
+    let mut to = BufWriter::new(io::stdout().lock());
+    answer(input, &mut to)?;
+    to.flush()
+}
+
+fn main() -> ExitCode {
+    let done = match read() {
+        Ok(input) => write(&input).map_err(|error| format!("cannot write: {error}")),
+        Err(error) => Err(format!("cannot read: {error}")),
+    };
+    match done {
+        Ok(()) => ExitCode::SUCCESS,
+        Err(message) => {
+            eprintln!("print: {message}");
+            ExitCode::FAILURE
         }
     }
-    io::stdout().write_all(answer(&input).as_bytes())
 }

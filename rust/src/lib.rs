@@ -1,36 +1,34 @@
-//! Ribaltzen: what a reader sees of a layout sheet, planned by a proved library.
-//!
-//! [`plan`] answers one query on one sheet: with a [`Plan`], whose records can be walked, or with a [`Refusal`]. Any bytes
-//! and any query get an answer. The formats are in docs/FORMATS.md.
-//!
-//! ```
-//! use ribaltzen::{Buffers, Query, Record, plan};
-//!
-//! let mut buffers = Buffers::new();
-//! let answer = plan(b"", &Query::default(), buffers.lend())?;
-//! assert!(matches!(answer.records().next(), Some(Record::Totals(_))));
-//! # Ok::<(), ribaltzen::Refusal>(())
-//! ```
+#![doc = include_str!("../README.md")]
+#![deny(missing_docs)]
 
+mod buffers;
 mod call;
+mod damaged;
+mod fields;
+mod float_environment;
+mod geometry;
+mod plan;
+mod query;
 mod record;
+mod records;
 mod refusal;
+pub mod sheet;
 
-pub use call::{Buffers, Lent, Plan, Query, hidden_layer, plan};
-pub use record::{Placement, Record, Records, Totals};
+pub use buffers::{Buffers, Lent};
+pub use call::plan;
+pub use damaged::{Damage, Damaged};
+pub use float_environment::float_environment_is_default;
+pub use geometry::{Placement, WorldBBox};
+pub use plan::{Plan, PlanRecords};
+pub use query::{Query, hidden_layer};
+pub use record::{Record, Totals};
+pub use records::Records;
 pub use refusal::Refusal;
-
-/// Four edges, which belong to the box.
-#[derive(Clone, Copy, Debug, Default, PartialEq)]
-pub struct WorldBBox {
-    pub min_x: f64,
-    pub min_y: f64,
-    pub max_x: f64,
-    pub max_y: f64,
-}
+pub use sheet::Sheet;
 
 /// No plan has a longer tape: 100,000 proxies, 20,000 batches and the totals.
-pub const MOST_TAPE: usize = 100_000 * 42 + 20_000 * 58 + 54;
+pub const MOST_TAPE: usize =
+    100_000 * record::length::PROXY + 20_000 * record::length::BATCH + record::length::TOTALS;
 /// The most cells that a sheet may have.
 pub const MOST_CELLS: usize = 4_096;
 /// The greatest depth of a query.

@@ -1,143 +1,173 @@
-//! The records of a tape: kinds 11 to 15 of docs/FORMATS.md.
+//! One record of a tape, kinds 11 to 15 of docs/FORMATS.md: its fields, its reading and its line.
 
-use crate::WorldBBox;
+use std::fmt;
 
-/// Where a batch is placed: its point (p, q) goes to (x_axis · p + y_axis · q) + translation.
-#[derive(Clone, Copy, Debug, PartialEq)]
-pub struct Placement {
-    pub x_axis: [f64; 2],
-    pub y_axis: [f64; 2],
-    pub translation: [f64; 2],
+use crate::fields::Fields;
+use crate::{Damage, Placement, WorldBBox};
+
+/// The bytes of each record, its length and kind included.
+pub(crate) mod length {
+    pub const BATCH: usize = 58;
+    pub const TEXT: usize = 26;
+    pub const POINT: usize = 26;
+    pub const PROXY: usize = 42;
+    pub const TOTALS: usize = 54;
 }
 
-/// The six counts that close a plan.
+/// The six counts that close a plan. They stop at 2^64 − 1.
 #[derive(Clone, Copy, Debug, Default, PartialEq, Eq)]
 pub struct Totals {
+    /// Cells whose items were visited.
     pub detail_cells: u64,
+    /// Listed batches, texts and points together.
     pub detail_objects: u64,
+    /// References that became one proxy.
     pub culled_references: u64,
+    /// Members of references that are under one pixel in width and in height.
     pub skipped_references: u64,
+    /// Batches that became a proxy.
     pub culled_batches: u64,
+    /// Batches that are under one pixel in width and in height.
     pub skipped_batches: u64,
 }
 
-/// One record of a plan. Numbers are those of the sheet's records, from 0 within their kind.
+/// One record of a plan. Numbers are those of the sheet's records, from 0 within their kind: [`crate::Sheet`] finds them.
+///
+/// It is displayed as the line that the program `plan` prints: floats as the 16 hexadecimal digits of their bits, all else
+/// decimal, a proxy without a label as `none`.
 #[derive(Clone, Copy, Debug, PartialEq)]
 pub enum Record {
+    /// A batch is drawn.
     Batch {
+        /// The batch of the sheet.
         number: u32,
+        /// Where it is placed.
         placement: Placement,
     },
+    /// A text is drawn.
     Text {
+        /// The text of the sheet.
         number: u32,
+        /// Where its origin is placed: x, y.
         position: [f64; 2],
     },
+    /// One point of a node is drawn.
     Point {
+        /// The node's layer.
         layer: u16,
+        /// The node's type.
         node_type: u16,
+        /// Where the point is placed: x, y.
         position: [f64; 2],
     },
-    /// A part that shrank to a box; the label is the number of its cell, where it has one.
+    /// A part that shrank to a box.
     Proxy {
+        /// The number of its cell, where it is one; the sheet may lack that cell.
         label: Option<u32>,
+        /// The box.
         bbox: WorldBBox,
     },
+    /// The last record of every plan.
     Totals(Totals),
 }
 
 /// On the tape, for a proxy without a label.
 const NO_LABEL: u32 = u32::MAX;
 
-/// The records of a tape in order. It ends at the first bytes that are no record, which a plan's tape never has.
-#[derive(Clone, Debug)]
-pub struct Records<'a> {
-    rest: &'a [u8],
-}
-
-impl<'a> Records<'a> {
-    /// A tape's records, as [`crate::Plan::tape`] gives it or as it was stored.
-    pub fn new(tape: &'a [u8]) -> Self {
-        Self { rest: tape }
-    }
-}
-
-impl Iterator for Records<'_> {
-    type Item = Record;
-
-    fn next(&mut self) -> Option<Record> {
-        let length = u32::from_le_bytes(field(self.rest, 0)?) as usize;
-        let whole = self.rest.get(..length)?;
-        let record = read(u16::from_le_bytes(field(whole, 4)?), whole)?;
-        self.rest = &self.rest[length..];
-        Some(record)
-    }
-}
-
-/// The bytes at a place of a record, if it has them.
-fn field<const N: usize>(record: &[u8], at: usize) -> Option<[u8; N]> {
-    record.get(at..at + N)?.try_into().ok()
-}
-
-fn u16_at(record: &[u8], at: usize) -> Option<u16> {
-    field(record, at).map(u16::from_le_bytes)
-}
-
-fn u32_at(record: &[u8], at: usize) -> Option<u32> {
-    field(record, at).map(u32::from_le_bytes)
-}
-
-fn u64_at(record: &[u8], at: usize) -> Option<u64> {
-    field(record, at).map(u64::from_le_bytes)
-}
-
-fn f64_at(record: &[u8], at: usize) -> Option<f64> {
-    u64_at(record, at).map(f64::from_bits)
-}
-
-fn pair_at(record: &[u8], at: usize) -> Option<[f64; 2]> {
-    Some([f64_at(record, at)?, f64_at(record, at + 8)?])
-}
-
-fn read(kind: u16, record: &[u8]) -> Option<Record> {
-    Some(match (kind, record.len()) {
-        (11, 58) => Record::Batch {
-            number: u32_at(record, 6)?,
-            placement: Placement {
-                x_axis: pair_at(record, 10)?,
-                y_axis: pair_at(record, 26)?,
-                translation: pair_at(record, 42)?,
-            },
-        },
-        (12, 26) => Record::Text {
-            number: u32_at(record, 6)?,
-            position: pair_at(record, 10)?,
-        },
-        (13, 26) => Record::Point {
-            layer: u16_at(record, 6)?,
-            node_type: u16_at(record, 8)?,
-            position: pair_at(record, 10)?,
-        },
-        (14, 42) => {
-            let ([min_x, min_y], [max_x, max_y]) = (pair_at(record, 10)?, pair_at(record, 26)?);
-            let label = Some(u32_at(record, 6)?).filter(|&label| label != NO_LABEL);
-            Record::Proxy {
-                label,
-                bbox: WorldBBox {
-                    min_x,
-                    min_y,
-                    max_x,
-                    max_y,
+impl Record {
+    pub(crate) fn read(kind: u16, body: &[u8]) -> Result<Self, Damage> {
+        let mut fields = Fields::new(body);
+        let record = match kind {
+            11 => Self::Batch {
+                number: fields.u32()?,
+                placement: Placement {
+                    x_axis: fields.pair()?,
+                    y_axis: fields.pair()?,
+                    translation: fields.pair()?,
                 },
+            },
+            12 => Self::Text {
+                number: fields.u32()?,
+                position: fields.pair()?,
+            },
+            13 => Self::Point {
+                layer: fields.u16()?,
+                node_type: fields.u16()?,
+                position: fields.pair()?,
+            },
+            14 => Self::Proxy {
+                label: Some(fields.u32()?).filter(|&label| label != NO_LABEL),
+                bbox: fields.bbox()?,
+            },
+            15 => Self::Totals(Totals {
+                detail_cells: fields.u64()?,
+                detail_objects: fields.u64()?,
+                culled_references: fields.u64()?,
+                skipped_references: fields.u64()?,
+                culled_batches: fields.u64()?,
+                skipped_batches: fields.u64()?,
+            }),
+            _ => return Err(Damage::Kind),
+        };
+        fields.end()?;
+        Ok(record)
+    }
+}
+
+impl fmt::Display for Record {
+    fn fmt(&self, f: &mut fmt::Formatter) -> fmt::Result {
+        match self {
+            Self::Batch { number, placement } => {
+                write!(f, "batch {number}")?;
+                let Placement {
+                    x_axis,
+                    y_axis,
+                    translation,
+                } = placement;
+                floats(f, x_axis.iter().chain(y_axis).chain(translation))
             }
+            Self::Text { number, position } => {
+                write!(f, "text {number}")?;
+                floats(f, position)
+            }
+            Self::Point {
+                layer,
+                node_type,
+                position,
+            } => {
+                write!(f, "point {layer} {node_type}")?;
+                floats(f, position)
+            }
+            Self::Proxy { label, bbox } => {
+                match label {
+                    Some(label) => write!(f, "proxy {label}")?,
+                    None => f.write_str("proxy none")?,
+                }
+                floats(f, &[bbox.min_x, bbox.min_y, bbox.max_x, bbox.max_y])
+            }
+            Self::Totals(totals) => totals.fmt(f),
         }
-        (15, 54) => Record::Totals(Totals {
-            detail_cells: u64_at(record, 6)?,
-            detail_objects: u64_at(record, 14)?,
-            culled_references: u64_at(record, 22)?,
-            skipped_references: u64_at(record, 30)?,
-            culled_batches: u64_at(record, 38)?,
-            skipped_batches: u64_at(record, 46)?,
-        }),
-        _ => return None,
-    })
+    }
+}
+
+/// As the last line that the program `plan` prints.
+impl fmt::Display for Totals {
+    fn fmt(&self, f: &mut fmt::Formatter) -> fmt::Result {
+        write!(
+            f,
+            "totals {} {} {} {} {} {}",
+            self.detail_cells,
+            self.detail_objects,
+            self.culled_references,
+            self.skipped_references,
+            self.culled_batches,
+            self.skipped_batches
+        )
+    }
+}
+
+fn floats<'a>(f: &mut fmt::Formatter, values: impl IntoIterator<Item = &'a f64>) -> fmt::Result {
+    values
+        .into_iter()
+        .try_for_each(|value| write!(f, " {:016x}", value.to_bits()))
 }

@@ -1,12 +1,17 @@
 //! A refusal: the number of the first question that was answered "no", and where.
 
+use std::error::Error;
 use std::fmt;
 
-/// Numbers 2 to 6 have the offset of the record in the sheet, the others 0.
+/// Why there is no plan. It is displayed as the number, the record, and the question that was answered "no".
 #[derive(Clone, Copy, Debug, PartialEq, Eq)]
 pub struct Refusal {
+    /// Document 01's number, 1 to 12.
     pub number: u32,
+    /// For numbers 2 to 6 where the record at fault starts in the sheet, for the others 0.
     pub offset: usize,
+    /// After number 12 the bytes of output that would have been enough, else `None`.
+    pub needed: Option<usize>,
 }
 
 impl Refusal {
@@ -49,8 +54,12 @@ impl fmt::Display for Refusal {
         if self.is_of_a_record() {
             write!(f, " at the record at byte {}", self.offset)?;
         }
-        write!(f, ": {} No.", self.question())
+        write!(f, ": {} No", self.question())?;
+        if let Some(needed) = self.needed {
+            write!(f, ", it has {needed} bytes")?;
+        }
+        f.write_str(".")
     }
 }
 
-impl std::error::Error for Refusal {}
+impl Error for Refusal {}

@@ -3,17 +3,21 @@
 mod sheets;
 
 use ribaltzen::{Buffers, Lent, MOST_SHEET, Query, Record, Refusal, WorldBBox, plan};
+use sheets::random::Random;
 use sheets::{batch, cell, record, reference, text, worked};
 
 const SQUARE: [f64; 4] = [0.0, 0.0, 9.0, 9.0];
+const QUERY: Query = Query::new(0, 1, WorldBBox::new(0.0, 0.0, 100.0, 100.0), 1.0);
 
+/// Number and offset. Only number 12 says what is needed, and no call here gives it.
 fn refused(sheet: &[u8], query: &Query) -> (u32, usize) {
-    let Refusal { number, offset } = plan(sheet, query, Buffers::new().lend()).unwrap_err();
-    (number, offset)
+    let refusal = plan(sheet, query, Buffers::new().lend()).unwrap_err();
+    assert_eq!(refusal.needed, None);
+    (refusal.number, refusal.offset)
 }
 
 fn of_sheet(sheet: &[u8]) -> (u32, usize) {
-    refused(sheet, &Query::default())
+    refused(sheet, &QUERY)
 }
 
 #[test]
@@ -26,19 +30,22 @@ fn number_1_for_a_sheet_of_one_byte_too_many() {
 
 #[test]
 fn numbers_2_to_5_at_the_first_record_at_fault() {
-    let first = text(1, [0.0, 0.0]);
+    let first = text(1, [0.0, 0.0], b"");
     let after = |bytes: Vec<u8>| of_sheet(&[first.clone(), bytes].concat());
     assert_eq!(after(vec![9; 5]), (2, 26));
     assert_eq!(after(record(6, &[])), (3, 26));
     assert_eq!(after(reference(32_768, 0, [0.0, 0.0], SQUARE)), (4, 26));
-    assert_eq!(after(text(1, [0.0, f64::NAN])), (5, 26));
+    assert_eq!(after(text(1, [0.0, f64::NAN], b"")), (5, 26));
     assert_eq!(after(batch(1, 1, [0.0, 0.0, f64::INFINITY, 1.0])), (5, 26));
 }
 
 #[test]
 fn number_6_for_a_number_without_a_record() {
-    let sheet = [text(1, [0.0, 0.0]), cell(None, [&[], &[0, 1], &[], &[]])].concat();
-    assert_eq!(of_sheet(&sheet), (6, 26));
+    let lists = cell(None, [&[], &[0, 1], &[], &[]]);
+    assert_eq!(
+        of_sheet(&[text(1, [0.0, 0.0], b""), lists].concat()),
+        (6, 26)
+    );
 }
 
 #[test]
@@ -51,96 +58,67 @@ fn number_7_before_number_6() {
 #[test]
 fn numbers_8_to_10_for_the_query() {
     let sheet = worked();
-    let of_query = |query: Query| refused(&sheet, &query);
-    let turned = WorldBBox {
-        min_x: 1.0,
-        ..WorldBBox::default()
-    };
-    let endless = WorldBBox {
-        max_y: f64::INFINITY,
-        ..WorldBBox::default()
-    };
+    let of_view = |view| refused(&sheet, &Query { view, ..QUERY });
+    assert_eq!(of_view(WorldBBox::new(1.0, 0.0, 0.0, 0.0)), (8, 0));
     assert_eq!(
-        of_query(Query {
-            view: turned,
-            ..Query::default()
-        }),
-        (8, 0)
-    );
-    assert_eq!(
-        of_query(Query {
-            view: endless,
-            ..Query::default()
-        }),
+        of_view(WorldBBox::new(0.0, 0.0, 0.0, f64::INFINITY)),
         (8, 0)
     );
     for zoom in [0.0, -0.0, -1.0, f64::NAN, f64::INFINITY] {
-        assert_eq!(
-            of_query(Query {
-                zoom,
-                ..Query::default()
-            }),
-            (9, 0)
-        );
+        assert_eq!(refused(&sheet, &Query { zoom, ..QUERY }), (9, 0));
     }
-    assert_eq!(
-        of_query(Query {
-            depth: 33,
-            ..Query::default()
-        }),
-        (10, 0)
-    );
+    assert_eq!(refused(&sheet, &Query { depth: 33, ..QUERY }), (10, 0));
 }
 
-/// The answer and the memory after a call with so many bytes and places, all filled with 7.
+/// The refusal and the memory after a call with so many bytes and places, all filled with 7.
 fn with_sizes(
     out: usize,
     counts: usize,
     marks: usize,
-) -> (Option<u32>, Vec<u8>, Vec<u64>, Vec<u8>) {
+) -> (Option<Refusal>, Vec<u8>, Vec<u64>, Vec<u8>) {
     let (mut o, mut c, mut m) = (vec![7u8; out], vec![7u64; counts], vec![7u8; marks]);
     let lent = Lent {
         out: &mut o,
         counts: &mut c,
         marks: &mut m,
     };
-    let view = WorldBBox {
-        max_x: 100.0,
-        max_y: 100.0,
-        ..WorldBBox::default()
-    };
-    let number = plan(
-        &worked(),
-        &Query {
-            view,
-            ..Query::default()
-        },
-        lent,
-    )
-    .err()
-    .map(|refusal| refusal.number);
-    (number, o, c, m)
+    let refusal = plan(&worked(), &QUERY, lent).err();
+    (refusal, o, c, m)
+}
+
+fn refusal(number: u32, offset: usize, needed: Option<usize>) -> Refusal {
+    Refusal {
+        number,
+        offset,
+        needed,
+    }
 }
 
 #[test]
 fn number_11_touches_nothing() {
+    let short = Some(refusal(11, 0, None));
     assert_eq!(
         with_sizes(80, 0, 3),
-        (Some(11), vec![7; 80], vec![], vec![7; 3])
+        (short, vec![7; 80], vec![], vec![7; 3])
     );
     assert_eq!(
         with_sizes(80, 1, 2),
-        (Some(11), vec![7; 80], vec![7], vec![7; 2])
+        (short, vec![7; 80], vec![7], vec![7; 2])
     );
     assert_eq!(with_sizes(80, 1, 3).0, None);
 }
 
 #[test]
-fn number_12_zeroes_the_output() {
+fn number_12_zeroes_the_output_and_says_what_is_needed() {
     for out in 0..80 {
         assert_eq!(
             with_sizes(out, 2, 4),
-            (Some(12), vec![0; out], vec![0, 7], vec![0, 0, 0, 7])
+            (
+                Some(refusal(12, 0, Some(80))),
+                vec![0; out],
+                vec![0, 7],
+                vec![0, 0, 0, 7]
+            )
         );
     }
     assert_eq!(with_sizes(80, 2, 4).0, None);
@@ -148,37 +126,20 @@ fn number_12_zeroes_the_output() {
 
 #[test]
 fn a_refusal_says_what_was_asked() {
-    let of_a_record = Refusal {
-        number: 5,
-        offset: 26,
-    };
     assert_eq!(
-        of_a_record.to_string(),
+        refusal(5, 26, None).to_string(),
         "refused with number 5 at the record at byte 26: Is every float finite? No."
     );
-    let of_the_query = Refusal {
-        number: 10,
-        offset: 0,
-    };
     assert_eq!(
-        of_the_query.to_string(),
+        refusal(10, 0, None).to_string(),
         "refused with number 10: Is depth at most 32? No."
     );
+    assert_eq!(
+        refusal(12, 0, Some(80)).to_string(),
+        "refused with number 12: Does the whole tape fit the lent output? No, it has 80 bytes."
+    );
     for number in 1..=12 {
-        assert!(Refusal { number, offset: 0 }.question().ends_with('?'));
-    }
-}
-
-/// Pseudo-random numbers from a fixed seed.
-struct Random(u64);
-
-impl Random {
-    fn below(&mut self, bound: usize) -> usize {
-        self.0 = self
-            .0
-            .wrapping_mul(6_364_136_223_846_793_005)
-            .wrapping_add(1_442_695_040_888_963_407);
-        ((self.0 >> 33) as usize) % bound
+        assert!(refusal(number, 0, None).question().ends_with('?'));
     }
 }
 
@@ -203,7 +164,7 @@ fn hostile_bytes_get_an_answer() {
         let query = Query {
             root: random.below(3) as u32,
             depth: random.below(5) as u32,
-            ..Query::default()
+            ..QUERY
         };
         match plan(&sheet, &query, buffers.lend()) {
             Ok(plan) => assert!(matches!(plan.records().last(), Some(Record::Totals(_)))),

@@ -1,0 +1,69 @@
+//! The records of a tape from any bytes, with what is damaged in them.
+
+use std::iter::FusedIterator;
+
+use crate::fields::split_record;
+use crate::{Damage, Damaged, Record};
+
+/// The records of a tape in order, totals last.
+///
+/// A tape that is not whole ends in one [`Damaged`]: a record that is cut or is none, an end without totals, bytes after
+/// them. So where no error was met, nothing is missing.
+///
+/// ```
+/// use ribaltzen::{Damage, Records};
+///
+/// let mut records = Records::new(b""); // not even totals
+/// assert_eq!(records.next().unwrap().unwrap_err().why, Damage::NoTotals);
+/// assert_eq!(records.next(), None);
+/// ```
+#[derive(Clone, Debug)]
+pub struct Records<'a> {
+    tape: &'a [u8],
+    rest: &'a [u8],
+    totals_seen: bool,
+    ended: bool,
+}
+
+impl<'a> Records<'a> {
+    /// The records of a tape that was stored or sent. For one that was just planned see [`crate::Plan::records`].
+    pub fn new(tape: &'a [u8]) -> Self {
+        Self {
+            tape,
+            rest: tape,
+            totals_seen: false,
+            ended: false,
+        }
+    }
+
+    /// The next record, if the tape goes on, as it must until the totals.
+    fn read(&mut self) -> Result<Option<Record>, Damage> {
+        match (self.totals_seen, self.rest.is_empty()) {
+            (true, true) => return Ok(None),
+            (true, false) => return Err(Damage::AfterTotals),
+            (false, true) => return Err(Damage::NoTotals),
+            (false, false) => {}
+        }
+        let (kind, body, rest) = split_record(self.rest)?;
+        let record = Record::read(kind, body)?;
+        self.rest = rest;
+        self.totals_seen = matches!(record, Record::Totals(_));
+        Ok(Some(record))
+    }
+}
+
+impl Iterator for Records<'_> {
+    type Item = Result<Record, Damaged>;
+
+    fn next(&mut self) -> Option<Self::Item> {
+        if self.ended {
+            return None;
+        }
+        let offset = self.tape.len() - self.rest.len();
+        let read = self.read();
+        self.ended = !matches!(read, Ok(Some(_)));
+        read.map_err(|why| Damaged { offset, why }).transpose()
+    }
+}
+
+impl FusedIterator for Records<'_> {}
