@@ -1,10 +1,13 @@
 //! Prints a plan as the program `plan` does: print [FILE], without a file from standard input.
 //! The input is a query as a record of kind 20, and then the sheet.
-//! Input that cannot be read, and output that cannot be written, end it with a message and status 1.
+//! Input that cannot be read, and output that cannot be written, end it with a message and status 1. Both go through files of
+//! the descriptors, since std's own streams take a bad descriptor for an empty input and a written output.
 
 use std::env;
+use std::ffi::{OsStr, OsString};
 use std::fs::File;
 use std::io::{self, BufWriter, Read, Write};
+use std::os::fd::AsFd;
 use std::process::ExitCode;
 
 use ribaltzen::{Buffers, Query, WorldBBox, plan};
@@ -42,27 +45,36 @@ fn answer(input: &[u8], mut to: impl Write) -> io::Result<()> {
     }
 }
 
-fn read() -> io::Result<Vec<u8>> {
+/// The bytes of a file, or of standard input.
+fn read(file: Option<&OsStr>) -> io::Result<Vec<u8>> {
     let mut input = Vec::new();
-    match env::args_os().nth(1) {
-        Some(file) => File::open(file)?.read_to_end(&mut input)?,
-        None => io::stdin().lock().read_to_end(&mut input)?,
+    let mut from = match file {
+        Some(file) => File::open(file)?,
+        None => File::from(io::stdin().as_fd().try_clone_to_owned()?),
     };
+    from.read_to_end(&mut input)?;
     Ok(input)
 }
 
 fn write(input: &[u8]) -> io::Result<()> {
-    let mut to = BufWriter::new(io::stdout().lock());
+    let mut to = BufWriter::new(File::from(io::stdout().as_fd().try_clone_to_owned()?));
     answer(input, &mut to)?;
     to.flush()
 }
 
-fn main() -> ExitCode {
-    let done = match read() {
-        Ok(input) => write(&input).map_err(|error| format!("cannot write: {error}")),
-        Err(error) => Err(format!("cannot read: {error}")),
+fn run() -> Result<(), String> {
+    let arguments: Vec<OsString> = env::args_os().skip(1).collect();
+    let file = match &arguments[..] {
+        [] => None,
+        [file] => Some(file.as_os_str()),
+        _ => return Err("name at most one file".to_string()),
     };
-    match done {
+    let input = read(file).map_err(|error| format!("cannot read: {error}"))?;
+    write(&input).map_err(|error| format!("cannot write: {error}"))
+}
+
+fn main() -> ExitCode {
+    match run() {
         Ok(()) => ExitCode::SUCCESS,
         Err(message) => {
             eprintln!("print: {message}");

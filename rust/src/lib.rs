@@ -1,3 +1,4 @@
+// The crate: its page, its modules and the limits of the planner.
 #![doc = include_str!("../README.md")]
 #![deny(missing_docs)]
 

@@ -1,12 +1,13 @@
 //! A plan: the tape that the library wrote, and its records.
 
+use std::fmt;
 use std::iter::FusedIterator;
 
 use crate::record::length;
 use crate::{Record, Records, Totals};
 
 /// A plan: its tape, in the memory that was lent.
-#[derive(Clone, Copy, Debug, PartialEq, Eq)]
+#[derive(Clone, Copy, PartialEq, Eq)]
 pub struct Plan<'a> {
     tape: &'a [u8],
 }
@@ -48,6 +49,15 @@ impl<'a> Plan<'a> {
     }
 }
 
+/// The tape's length: it may have megabytes.
+impl fmt::Debug for Plan<'_> {
+    fn fmt(&self, f: &mut fmt::Formatter) -> fmt::Result {
+        f.debug_struct("Plan")
+            .field("tape", &self.tape.len())
+            .finish()
+    }
+}
+
 /// The records of a [`Plan`].
 #[derive(Clone, Debug)]
 pub struct PlanRecords<'a> {
@@ -84,6 +94,7 @@ mod tests {
         let tape = tape();
         assert_eq!(Plan::new(&tape).records().count(), 2);
         assert_eq!(Plan::new(&tape).totals(), Totals::default());
+        assert_eq!(format!("{:?}", Plan::new(&tape)), "Plan { tape: 80 }");
     }
 
     #[test]

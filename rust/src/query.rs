@@ -18,8 +18,8 @@ use crate::WorldBBox;
 pub struct Query<'a> {
     /// The number of the cell to plan; one that the sheet lacks gives an empty plan.
     pub root: u32,
-    /// How many levels of references are opened, at most [`crate::MOST_DEPTH`]. Depth 0 gives one proxy, depth 1 the
-    /// root's own items and a proxy for each of its references.
+    /// At most [`crate::MOST_DEPTH`]. Depth 0 gives just one proxy, depth 1 the root's own items with its references as
+    /// proxies, and each further depth opens one more level of references.
     pub depth: u32,
     /// What is seen: finite, min at most max.
     pub view: WorldBBox,

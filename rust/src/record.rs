@@ -17,17 +17,17 @@ pub(crate) mod length {
 /// The six counts that close a plan. They stop at 2^64 − 1.
 #[derive(Clone, Copy, Debug, Default, PartialEq, Eq)]
 pub struct Totals {
-    /// Cells whose items were visited.
+    /// Cells that were opened.
     pub detail_cells: u64,
     /// Listed batches, texts and points together.
     pub detail_objects: u64,
-    /// References that became one proxy.
+    /// References and members of references whose box lies outside the view.
     pub culled_references: u64,
-    /// Members of references that are under one pixel in width and in height.
+    /// Members of references under one pixel in width and in height, or of no finite size.
     pub skipped_references: u64,
-    /// Batches that became a proxy.
+    /// Batches whose box lies outside the view.
     pub culled_batches: u64,
-    /// Batches that are under one pixel in width and in height.
+    /// Batches under one pixel in width and in height, or of no finite size.
     pub skipped_batches: u64,
 }
 

@@ -1,5 +1,6 @@
 //! The records of a tape from any bytes, with what is damaged in them.
 
+use std::fmt;
 use std::iter::FusedIterator;
 
 use crate::fields::split_record;
@@ -17,7 +18,7 @@ use crate::{Damage, Damaged, Record};
 /// assert_eq!(records.next().unwrap().unwrap_err().why, Damage::NoTotals);
 /// assert_eq!(records.next(), None);
 /// ```
-#[derive(Clone, Debug)]
+#[derive(Clone)]
 pub struct Records<'a> {
     tape: &'a [u8],
     rest: &'a [u8],
@@ -34,6 +35,11 @@ impl<'a> Records<'a> {
             totals_seen: false,
             ended: false,
         }
+    }
+
+    /// Where the next record starts.
+    fn offset(&self) -> usize {
+        self.tape.len() - self.rest.len()
     }
 
     /// The next record, if the tape goes on, as it must until the totals.
@@ -59,7 +65,7 @@ impl Iterator for Records<'_> {
         if self.ended {
             return None;
         }
-        let offset = self.tape.len() - self.rest.len();
+        let offset = self.offset();
         let read = self.read();
         self.ended = !matches!(read, Ok(Some(_)));
         read.map_err(|why| Damaged { offset, why }).transpose()
@@ -67,3 +73,13 @@ impl Iterator for Records<'_> {
 }
 
 impl FusedIterator for Records<'_> {}
+
+/// The tape's length and the offset that is reached: the tape may have megabytes.
+impl fmt::Debug for Records<'_> {
+    fn fmt(&self, f: &mut fmt::Formatter) -> fmt::Result {
+        f.debug_struct("Records")
+            .field("tape", &self.tape.len())
+            .field("offset", &self.offset())
+            .finish()
+    }
+}

@@ -106,6 +106,14 @@ fn each_kind_has_one_length() {
 }
 
 #[test]
+fn records_print_how_far_they_are() {
+    let tape = tape();
+    let mut records = Records::new(&tape);
+    records.nth(1);
+    assert_eq!(format!("{records:?}"), "Records { tape: 232, offset: 84 }");
+}
+
+#[test]
 fn damage_says_where_and_what() {
     let tape = tape();
     let (_, end) = read(&tape[..tape.len() - 1]);

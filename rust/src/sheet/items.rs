@@ -148,15 +148,15 @@ pub struct Reference {
     pub columns: u16,
     /// At most 32,767.
     pub rows: u16,
-    /// Whether the source is reflected, before it is rotated.
+    /// Whether y is negated, before all else is done.
     pub reflection: bool,
     /// What is placed.
     pub source: Source,
     /// Where the first member stands: x, y.
     pub origin: [f64; 2],
-    /// What is added for each column: x, y.
+    /// What is added for each column, and rotated with the members: x, y.
     pub spacing_x: [f64; 2],
-    /// What is added for each row: x, y.
+    /// What is added for each row, and rotated with the members: x, y.
     pub spacing_y: [f64; 2],
     /// What lengths are multiplied by.
     pub magnification: f64,
