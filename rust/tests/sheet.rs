@@ -55,17 +55,20 @@ fn fields_of_a_node() {
     assert_eq!(format!("{:?}", node.points()), "[[1.0, 2.0], [3.0, 4.0]]");
 }
 
-/// A reference's record: columns, rows, flags, source kind and number, and the floats from 1 on.
-fn grid(head: [u16; 4], number: u32, floats_from_1: usize, bbox: [f64; 4]) -> Vec<u8> {
-    let values: Vec<f64> = (1..=floats_from_1).map(|value| value as f64).collect();
+/// A reference's record: columns, rows, flags and source kind, source number, the nine floats 1 to 9, a box.
+fn grid(head: [u16; 4], number: u32, bbox: [f64; 4]) -> Vec<u8> {
     let head = [halves(&head), number.to_le_bytes().to_vec()].concat();
-    record(4, &[head, floats(&values), floats(&bbox)].concat())
+    let values = floats(&[1.0, 2.0, 3.0, 4.0, 5.0, 6.0, 7.0, 8.0, 9.0]);
+    record(4, &[head, values, floats(&bbox)].concat())
+}
+
+fn read_reference(bytes: &[u8]) -> Reference {
+    *Sheet::new(bytes).unwrap().reference(0).unwrap()
 }
 
 #[test]
 fn fields_of_a_reference() {
-    let bytes = grid([11, 12, 3, 4], 13, 9, EDGES);
-    let mut expected = Reference {
+    let expected = Reference {
         columns: 11,
         rows: 12,
         reflection: true,
@@ -78,19 +81,47 @@ fn fields_of_a_reference() {
         sin: 9.0,
         source_bbox: Some(BBOX),
     };
-    assert_eq!(Sheet::new(&bytes).unwrap().references(), [expected]);
-    let bytes = grid([11, 12, 0, 5], u32::MAX - 1, 9, [0.0; 4]);
-    expected.source = Source::Cell(u32::MAX - 1);
-    (expected.reflection, expected.source_bbox) = (false, None);
-    assert_eq!(Sheet::new(&bytes).unwrap().reference(0), Some(&expected));
-    let sources = [Source::Batch(7), Source::Text(7), Source::Node(7)];
-    for (kind, source) in (1..).zip(sources) {
-        let bytes = grid([1, 1, 0, kind], 7, 9, [0.0; 4]);
+    assert_eq!(read_reference(&grid([11, 12, 3, 4], 13, EDGES)), expected);
+}
+
+#[test]
+fn flags_of_a_reference() {
+    for (flags, reflection, source_bbox) in [
+        (0, false, None),
+        (1, true, None),
+        (2, false, Some(BBOX)),
+        (3, true, Some(BBOX)),
+    ] {
+        let edges = if source_bbox.is_some() {
+            EDGES
+        } else {
+            [0.0; 4]
+        };
+        let read = read_reference(&grid([1, 1, flags, 4], 0, edges));
         assert_eq!(
-            Sheet::new(&bytes).unwrap().reference(0).unwrap().source,
+            (read.reflection, read.source_bbox),
+            (reflection, source_bbox)
+        );
+    }
+}
+
+#[test]
+fn sources_of_a_reference() {
+    for (kind, source) in [
+        (1, Source::Batch(7)),
+        (2, Source::Text(7)),
+        (3, Source::Node(7)),
+        (4, Source::Reference(7)),
+        (5, Source::Cell(7)),
+    ] {
+        assert_eq!(
+            read_reference(&grid([1, 1, 2, kind], 7, EDGES)).source,
             source
         );
     }
+    let greatest = u32::MAX - 1;
+    let read = read_reference(&grid([1, 1, 2, 5], greatest, EDGES));
+    assert_eq!(read.source, Source::Cell(greatest));
 }
 
 #[test]
@@ -219,7 +250,7 @@ fn are_all_met(answers: [usize; 13]) -> bool {
 
 /// With a second cell without a box, and a reflected reference without one.
 fn sound() -> Vec<u8> {
-    let plain = grid([2, 1, 1, 2], 0, 9, [0.0; 4]);
+    let plain = grid([2, 1, 1, 2], 0, [0.0; 4]);
     [of_every_kind(), plain, cell(None, [&[]; 4])].concat()
 }
 

@@ -2,8 +2,8 @@
 
 mod sheets;
 
-use ribaltzen::{Buffers, Damage, Damaged, Query, Record, Records, WorldBBox, plan};
-use sheets::{of_every_kind, record};
+use ribaltzen::{Buffers, Damage, Damaged, Query, Record, Records, Totals, WorldBBox, plan};
+use sheets::{floats, of_every_kind, record};
 
 /// A batch, a text, two points, a proxy, the totals.
 const LENGTHS: [usize; 6] = [58, 26, 26, 26, 42, 54];
@@ -123,17 +123,47 @@ fn damage_says_where_and_what() {
     );
 }
 
-/// The lines that the program `plan` prints; `oracle/compare` holds them against all stored answers.
+/// What a tape of no plan at hand shows: a proxy without a label, and six different totals.
 #[test]
-fn each_record_prints_its_line() {
-    let mut lines: Vec<String> = Records::new(&tape())
-        .map(|record| record.unwrap().to_string())
-        .collect();
-    let unlabelled = Record::Proxy {
+fn labels_and_totals_are_read() {
+    let label = [0xff; 4];
+    let bbox = floats(&[-0.0, f64::INFINITY, 1.0, -1.0]);
+    let counts: Vec<u8> = (1..=6).flat_map(u64::to_le_bytes).collect();
+    let tape = [
+        record(14, &[&label, &bbox[..]].concat()),
+        record(15, &counts),
+    ]
+    .concat();
+    let records: Vec<Record> = Records::new(&tape).map(Result::unwrap).collect();
+    let proxy = Record::Proxy {
         label: None,
         bbox: WorldBBox::new(-0.0, f64::INFINITY, 1.0, -1.0),
     };
-    lines.push(unlabelled.to_string());
+    let totals = Totals {
+        detail_cells: 1,
+        detail_objects: 2,
+        culled_references: 3,
+        skipped_references: 4,
+        culled_batches: 5,
+        skipped_batches: 6,
+    };
+    assert_eq!(records, [proxy, Record::Totals(totals)]);
+    assert_eq!(
+        [proxy.to_string(), totals.to_string()],
+        [
+            "proxy none 8000000000000000 7ff0000000000000 3ff0000000000000 bff0000000000000",
+            "totals 1 2 3 4 5 6"
+        ]
+    );
+}
+
+/// The lines that the program `plan` prints; `oracle/compare` holds them against all stored answers.
+#[test]
+fn each_record_prints_its_line() {
+    let tape = tape();
+    let lines: Vec<String> = Records::new(&tape)
+        .map(|record| record.unwrap().to_string())
+        .collect();
     assert_eq!(
         lines,
         [
@@ -143,7 +173,6 @@ fn each_record_prints_its_line() {
             "point 3 9 4008000000000000 4010000000000000",
             "proxy 1 4051800000000000 4054000000000000 4052000000000000 4054c00000000000",
             "totals 1 4 0 0 0 0",
-            "proxy none 8000000000000000 7ff0000000000000 3ff0000000000000 bff0000000000000",
         ]
     );
 }
