@@ -33,6 +33,10 @@ impl Buffers {
 
     /// Enough for tapes of so many bytes, and for sheets of so many cells at a depth. More than [`MOST_CELLS`] cells and
     /// depths above [`MOST_DEPTH`] count as these: a call past them is refused before its scratch is looked at.
+    ///
+    /// # Panics
+    ///
+    /// As a `Vec` does, if so long a tape cannot be allocated.
     pub fn with_sizes(tape: usize, cells: usize, depth: u32) -> Self {
         let cells = cells.min(MOST_CELLS);
         let depth = depth.min(MOST_DEPTH) as usize;
@@ -43,8 +47,8 @@ impl Buffers {
         }
     }
 
-    /// The scratch that a sheet needs at a depth, and an output for one record of each of its items: [`Buffers::plan`]
-    /// makes it longer where grids list more.
+    /// The scratch that a sheet needs at a depth (a deeper query is refused with 11), and an output for one record of each
+    /// of its items: [`Buffers::plan`] makes it longer where grids list more.
     pub fn for_sheet(sheet: &Sheet, depth: u32) -> Self {
         // No sum can overflow: no item has a record of twice its bytes in the sheet.
         let points: usize = sheet.nodes().iter().map(|node| node.points().len()).sum();
@@ -56,8 +60,12 @@ impl Buffers {
         Self::with_sizes(tape.min(MOST_TAPE), sheet.cells().len(), depth)
     }
 
-    /// Plans a sheet in this memory, as [`crate::plan`] does. Where the output is too short it is replaced by one that is
-    /// enough and the sheet planned once more, so number 12 is not met.
+    /// Plans a sheet in this memory. Where the output is too short it is replaced by one that is enough and the sheet
+    /// planned once more, so number 12 is not met.
+    ///
+    /// # Panics
+    ///
+    /// As [`crate::plan`] does.
     pub fn plan(&mut self, sheet: &[u8], query: &Query) -> Result<Plan<'_>, Refusal> {
         let mut answer = call(sheet, query, &mut self.lend());
         if let Err(Refusal {

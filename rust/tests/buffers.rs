@@ -7,7 +7,7 @@ use sheets::{cell, of_every_kind, reference, text, worked};
 
 const QUERY: Query = Query::new(0, 4, WorldBBox::new(0.0, 0.0, 100.0, 100.0), 1.0);
 
-/// Also how sizes are seen here: what memory is printed as.
+/// What memory of these lengths is printed as.
 fn sizes(out: usize, counts: usize, marks: usize) -> String {
     format!("Buffers {{ out: {out}, counts: {counts}, marks: {marks} }}")
 }
@@ -51,9 +51,9 @@ fn sizes_for_a_sheet() {
             .count(),
         6
     );
-    let shallow = Query { depth: 5, ..QUERY };
+    let deeper = Query { depth: 5, ..QUERY };
     assert_eq!(
-        plan(&bytes, &shallow, buffers.lend()).unwrap_err().number,
+        plan(&bytes, &deeper, buffers.lend()).unwrap_err().number,
         11
     );
 }
