@@ -38,9 +38,8 @@ pub struct Sheet<'a> {
 impl<'a> Sheet<'a> {
     /// Reads the records of a sheet, or says which is the first that cannot be read.
     ///
-    /// Refused are the sheets that the planner refuses with numbers 2, 3 and 4, at the same record. What it refuses with
-    /// other numbers (floats that are not finite, numbers that name no record) can be read, and every sheet that it
-    /// accepts.
+    /// That is the first record which the planner would refuse with number 2, 3 or 4. Whether the sheet is too long, floats
+    /// are finite and numbers name records is not asked, so every sheet that the planner accepts can be read.
     pub fn new(bytes: &'a [u8]) -> Result<Self, Damaged> {
         let mut sheet = Self {
             batches: Vec::new(),

@@ -36,6 +36,7 @@ fn fields_of_a_text() {
     };
     assert_eq!(sheet.texts(), [text]);
     assert_eq!(text.to_string(), "a\u{fffd}b\u{fffd}");
+    assert_eq!(format!("{text:>5}|"), " a\u{fffd}b\u{fffd}|");
 }
 
 #[test]

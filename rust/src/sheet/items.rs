@@ -1,6 +1,6 @@
 //! The five kinds of a sheet's records, and their reading.
 
-use std::fmt::{self, Write};
+use std::fmt;
 
 use super::list::{Numbers, Points};
 use crate::fields::Fields;
@@ -70,16 +70,8 @@ impl<'a> Text<'a> {
 
 impl fmt::Display for Text<'_> {
     fn fmt(&self, f: &mut fmt::Formatter) -> fmt::Result {
-        String::from_utf8_lossy(self.value)
-            .chars()
-            .map(|c| {
-                if c.is_control() {
-                    char::REPLACEMENT_CHARACTER
-                } else {
-                    c
-                }
-            })
-            .try_for_each(|c| f.write_char(c))
+        let value = String::from_utf8_lossy(self.value);
+        f.pad(&value.replace(char::is_control, "\u{fffd}"))
     }
 }
 
