@@ -1,8 +1,11 @@
 /* Ribaltzen: the scene planner for C programs.
  *
- * Link target/staticlib/libplanner_c.a, which `rt staticlib planner_c` writes (x86-64 Linux). The function is proved to
- * end, to read and write only what is lent, and to answer as document 01 says, for any bytes, any query and any lent
- * memory. That proof is about callers that keep to this page. docs/FORMATS.md has the formats of sheet and tape.
+ * Link target/staticlib/libplanner_c.a, which `rt staticlib planner_c` writes (x86-64 Linux). Its function scene_plan is
+ * proved to end, to read and write only what is lent, and to answer as document 01 says, for any bytes, any query and
+ * any lent memory. That proof is about callers that keep to this page. The static inline functions here and in
+ * ribaltzen_tape.h, which reads a tape, are tested, not proved.
+ *
+ * docs/FORMATS.md has the formats of sheet and tape; example.c beside this file is a whole program.
  *
  * Licence: MIT, see LICENSE and NOTICE.
  */
@@ -16,29 +19,28 @@
 extern "C" {
 #endif
 
-/* What scene_plan returns: 0 for a plan, else the number of the first question that was answered "no". */
+#define RIBALTZEN_VERSION_MAJOR 0
+#define RIBALTZEN_VERSION_MINOR 1
+#define RIBALTZEN_VERSION_PATCH 0
+#define RIBALTZEN_VERSION "0.1.0"
+
+/* What scene_plan returns: 0 for a plan, else the number of the first question that was answered "no".
+ * ribaltzen_refusal has the questions' words. */
 enum {
     RIBALTZEN_PLANNED = 0,
-    RIBALTZEN_SHEET_TOO_LONG = 1,      /* Is the sheet at most 16,777,216 bytes? */
-    RIBALTZEN_BROKEN_RECORD = 2,       /* Are 6 bytes left, and is the length at least 6 and within the sheet? */
-    RIBALTZEN_WRONG_LENGTH = 3,        /* Is the kind 1 to 5 and the length right for it, a cell's counts included? */
-    RIBALTZEN_WRONG_FIELD = 4,         /* Are columns and rows at most 32,767, spare flag bits zero, absent boxes zero,
-                                          the source kind 1 to 5, and a cell source below FFFFFFFF? */
-    RIBALTZEN_FLOAT_NOT_FINITE = 5,    /* Is every float finite? */
-    RIBALTZEN_NUMBER_NOT_NAMED = 6,    /* Does every number in a cell, and every source but a cell source, name an
-                                          existing record, and a reference source an earlier one? */
-    RIBALTZEN_TOO_MANY_CELLS = 7,      /* Are there at most 4,096 cells? (asked before number 6) */
-    RIBALTZEN_BAD_VIEW = 8,            /* Is the view finite, min at most max? */
-    RIBALTZEN_BAD_ZOOM = 9,            /* Is zoom finite and above 0? */
-    RIBALTZEN_TOO_DEEP = 10,           /* Is depth at most 32? */
-    RIBALTZEN_SCRATCH_TOO_SHORT = 11,  /* Has the counts scratch cells * depth places, the marks cells * (depth + 2)? */
-    RIBALTZEN_OUTPUT_TOO_SHORT = 12    /* Does the whole tape fit the lent output? */
+    RIBALTZEN_SHEET_TOO_LONG = 1,
+    RIBALTZEN_BROKEN_RECORD = 2,
+    RIBALTZEN_WRONG_LENGTH = 3,
+    RIBALTZEN_WRONG_FIELD = 4,
+    RIBALTZEN_FLOAT_NOT_FINITE = 5,
+    RIBALTZEN_NUMBER_NOT_NAMED = 6,
+    RIBALTZEN_TOO_MANY_CELLS = 7, /* asked before number 6 */
+    RIBALTZEN_BAD_VIEW = 8,
+    RIBALTZEN_BAD_ZOOM = 9,
+    RIBALTZEN_TOO_DEEP = 10,
+    RIBALTZEN_SCRATCH_TOO_SHORT = 11,
+    RIBALTZEN_OUTPUT_TOO_SHORT = 12
 };
-
-/* Sizes that are always enough: no plan has a longer tape, and no accepted sheet and depth name more scratch. */
-#define RIBALTZEN_MOST_TAPE ((size_t)5360054)       /* 100,000 proxies, 20,000 batches and the totals */
-#define RIBALTZEN_MOST_COUNTS ((size_t)(4096 * 32)) /* cells * depth, in places of 64 bits */
-#define RIBALTZEN_MOST_MARKS ((size_t)(4096 * 34))  /* cells * (depth + 2), in bytes */
 
 /* Plans one sheet.
  *
@@ -46,18 +48,19 @@ enum {
  *   root, depth, min_x, min_y, max_x, max_y, zoom
  *                         the query; a hidden layer is layer * 65536 + data type
  *   out                   takes the tape
- *   counts, marks         scratch; what they hold before the call does not matter
- *   *offset, *length      written by every call: the offset of the refused record (numbers 2 to 6) or 0,
- *                         and the tape's length in bytes, or 0 for a refusal
+ *   counts, marks         scratch: cells * depth places and cells * (depth + 2) bytes of it are named, that is used;
+ *                         what they hold before the call does not matter
+ *   *offset               written by every call: the offset of the refused record (numbers 2 to 6), else 0
+ *   *length               written by every call: see below
  *
- * Returns 0 and the plan's tape in out[0 .. *length), or the number of the refusal.
+ * Returns 0 and the plan's tape in out[0 .. *length), or the number of the refusal. After the call:
  *
- * After the call:
+ *   number    *length                  out                       counts and marks
+ *   1 to 11   0                        as lent                   as lent
+ *   12        what would be enough     all zero, to its end      the named places zero, the rest as lent
+ *   0         the tape's               the tape, then as lent    the named places zero, the rest as lent
  *
- *   number    out                         counts and marks
- *   1 to 11   as lent                     as lent
- *   12        all zero, to its end        the named places zero, the rest as lent
- *   0         the tape, then as lent      the named places zero, the rest as lent
+ * "Enough" is exact: the same call with an output of that many bytes is planned, and its tape fills it.
  *
  * What the caller owes, for nothing tests it:
  *
@@ -67,6 +70,10 @@ enum {
  *   - out, counts, marks, *offset and *length do not overlap each other, nor sheet or hidden.
  *   - No other thread writes any of these during the call, or reads what the call writes. Calls on separate memory may
  *     run at the same time: the library keeps no state.
+ *   - The float environment is the one that a thread starts with: round to nearest, no flushing, no traps. In the
+ *     register MXCSR, which each thread has of its own, rounding control is 0, flush-to-zero and denormals-are-zero are
+ *     clear, and the exceptions are masked. Under another rounding or with flushing the same call answers differently,
+ *     and nothing says so; test_floats.c shows it of each. Code compiled with -ffast-math may set flushing at start-up.
  *   - No length is above PTRDIFF_MAX bytes, which no real object is.
  *   - The thread has 128 KiB of stack left: no proof covers the stack. The most seen is 84,816 bytes.
  *
@@ -81,6 +88,84 @@ uint32_t scene_plan(const uint8_t *sheet, size_t sheet_length,
                     uint64_t *counts, size_t counts_length,
                     uint8_t *marks, size_t marks_length,
                     size_t *offset, size_t *length);
+
+/* Limits of a sheet and a query, and sizes that are always enough: no plan has a longer tape, and no accepted sheet and
+ * depth name more scratch. */
+#define RIBALTZEN_MOST_SHEET ((size_t)16777216) /* bytes */
+#define RIBALTZEN_MOST_CELLS ((size_t)4096)
+#define RIBALTZEN_MOST_DEPTH ((uint32_t)32)
+#define RIBALTZEN_MOST_TAPE ((size_t)5360054)       /* 100,000 proxies, 20,000 batches and the totals, in bytes */
+#define RIBALTZEN_MOST_COUNTS ((size_t)(4096 * 32)) /* cells * depth, in places of 64 bits */
+#define RIBALTZEN_MOST_MARKS ((size_t)(4096 * 34))  /* cells * (depth + 2), in bytes */
+
+/* The question that a number of scene_plan answers "no" to, in the words of docs/FORMATS.md. */
+static inline const char *ribaltzen_refusal(uint32_t number)
+{
+    switch (number) {
+    case RIBALTZEN_PLANNED: return "planned";
+    case RIBALTZEN_SHEET_TOO_LONG: return "Is the sheet at most 16,777,216 bytes?";
+    case RIBALTZEN_BROKEN_RECORD: return "Are 6 bytes left, and is the length at least 6 and within the sheet?";
+    case RIBALTZEN_WRONG_LENGTH: return "Is the kind 1 to 5, and the length right for it, a cell's counts included?";
+    case RIBALTZEN_WRONG_FIELD:
+        return "Are columns and rows at most 32,767, spare flag bits 0, absent boxes 0, the source kind 1 to 5, "
+               "a cell source below FFFFFFFF?";
+    case RIBALTZEN_FLOAT_NOT_FINITE: return "Is every float finite?";
+    case RIBALTZEN_NUMBER_NOT_NAMED:
+        return "Does every number name a record that is there, and a reference source an earlier one?";
+    case RIBALTZEN_TOO_MANY_CELLS: return "Are there at most 4,096 cells?";
+    case RIBALTZEN_BAD_VIEW: return "Is the view finite, min at most max?";
+    case RIBALTZEN_BAD_ZOOM: return "Is zoom finite and above 0?";
+    case RIBALTZEN_TOO_DEEP: return "Is depth at most 32?";
+    case RIBALTZEN_SCRATCH_TOO_SHORT: return "Are both scratch areas large enough?";
+    case RIBALTZEN_OUTPUT_TOO_SHORT: return "Does the whole tape fit the lent output?";
+    default: return "a number that this version does not know";
+    }
+}
+
+/* The little-endian number in so many bytes, at most 8, at an address of any alignment: a field of a sheet or a tape. */
+static inline uint64_t ribaltzen_field(const uint8_t *at, size_t bytes)
+{
+    uint64_t value = 0;
+    while (bytes > 0) {
+        bytes--;
+        value = value << 8 | at[bytes];
+    }
+    return value;
+}
+
+/* The scratch that a sheet and a depth name: *counts places of 64 bits and *marks bytes, found by one pass over the
+ * records. Returns 0, or with both sizes 0 one of the numbers 1, 2, 7 and 10: scene_plan then refuses too, with that
+ * number or that of an earlier question, whatever scratch it is lent. Nothing else of the sheet is looked at, so after 0
+ * a call may still be refused, but with scratch of these sizes or more never with 11. A size may be 0, for which malloc
+ * may answer NULL, and scene_plan takes none. */
+static inline uint32_t ribaltzen_scratch(const uint8_t *sheet, size_t sheet_length, uint32_t depth,
+                                         size_t *counts, size_t *marks)
+{
+    size_t at = 0, cells = 0;
+    *counts = 0;
+    *marks = 0;
+    if (sheet_length > RIBALTZEN_MOST_SHEET) {
+        return RIBALTZEN_SHEET_TOO_LONG;
+    }
+    while (at < sheet_length) {
+        size_t left = sheet_length - at;
+        size_t record = left < 6 ? 0 : (size_t)ribaltzen_field(sheet + at, 4);
+        if (record < 6 || record > left) {
+            return RIBALTZEN_BROKEN_RECORD;
+        }
+        cells += ribaltzen_field(sheet + at + 4, 2) == 5;
+        at += record;
+    }
+    if (cells > RIBALTZEN_MOST_CELLS) {
+        return RIBALTZEN_TOO_MANY_CELLS;
+    }
+    if (depth > RIBALTZEN_MOST_DEPTH) {
+        return RIBALTZEN_TOO_DEEP;
+    }
+    *counts = cells * depth;
+    *marks = cells * (depth + 2);
+    return RIBALTZEN_PLANNED;
+}
 
 #ifdef __cplusplus
 }

@@ -1,0 +1,131 @@
+/* ribaltzen_scratch: its sizes are exactly what scene_plan asks for, and its refusals are scene_plan's. */
+#include "test.h"
+
+#include <stdlib.h>
+#include <string.h>
+
+/* Memory of the sizes that are always enough. */
+struct scratch {
+    uint64_t counts[4096 * 32];
+    uint8_t marks[4096 * 34];
+    uint8_t out[8192];
+};
+
+static struct scratch *scratch;
+
+static uint32_t number_with(const uint8_t *sheet, size_t length, uint32_t depth, size_t counts, size_t marks)
+{
+    static const uint32_t hidden[1] = { 0 };
+    size_t offset, tape;
+    return scene_plan(sheet, length, 0, depth, 0.0, 0.0, 100.0, 100.0, 1.0, hidden, 0, scratch->out, sizeof scratch->out,
+                      scratch->counts, counts, scratch->marks, marks, &offset, &tape);
+}
+
+/* A number's place in the order in which questions are asked: 2 to 5 record by record, and 7 before 6. */
+static int place_of(uint32_t number)
+{
+    static const int places[13] = { 9, 0, 1, 1, 1, 1, 3, 2, 4, 5, 6, 7, 8 }; /* a plan comes after all questions */
+    return places[number];
+}
+
+/* Holds the sizes for a sheet and a depth to scene_plan. Returns whether the sheet is accepted. */
+static int expect_scratch(const uint8_t *sheet, size_t length, uint32_t depth)
+{
+    size_t counts = 99, marks = 99;
+    uint32_t number = ribaltzen_scratch(sheet, length, depth, &counts, &marks), answer;
+    if (number != 0) {
+        answer = number_with(sheet, length, depth, RIBALTZEN_MOST_COUNTS, RIBALTZEN_MOST_MARKS);
+        expect(counts == 0 && marks == 0, "a refusal gives no sizes");
+        expect(number == 1 || number == 2 || number == 7 || number == 10, "a refusal is 1, 2, 7 or 10");
+        expect(place_of(answer) <= place_of(number), "scene_plan refuses with that number or one that is asked earlier");
+        return 0;
+    }
+    expect(counts <= RIBALTZEN_MOST_COUNTS && marks <= RIBALTZEN_MOST_MARKS, "the sizes are within the greatest");
+    answer = number_with(sheet, length, depth, counts, marks);
+    expect(answer != RIBALTZEN_SCRATCH_TOO_SHORT, "the sizes are enough");
+    if (answer != RIBALTZEN_PLANNED && answer != RIBALTZEN_OUTPUT_TOO_SHORT) {
+        return 0;
+    }
+    expect(counts == 0 || number_with(sheet, length, depth, counts - 1, marks) == 11, "a count less is too few");
+    expect(marks == 0 || number_with(sheet, length, depth, counts, marks - 1) == 11, "a mark less is too few");
+    return 1;
+}
+
+/* So many bare cells, at each depth of a range. */
+static void test_cells(size_t cells, uint32_t least_depth, uint32_t most_depth, uint32_t number)
+{
+    static const double bbox[4] = { 0.0, 0.0, 1.0, 1.0 };
+    static const uint16_t none[4] = { 0, 0, 0, 0 };
+    struct bytes cell = { { 0 }, 0 };
+    uint8_t *sheet = (uint8_t *)malloc(56 * cells + 1);
+    size_t i, counts, marks;
+    uint32_t depth;
+    if (sheet == NULL) {
+        abort();
+    }
+    put_cell(&cell, bbox, none);
+    for (i = 0; i < cells; i++) {
+        memcpy(sheet + 56 * i, cell.at, 56);
+    }
+    for (depth = least_depth; depth <= most_depth; depth++) {
+        expect(ribaltzen_scratch(sheet, 56 * cells, depth, &counts, &marks) == number, "the number for bare cells");
+        expect(number != 0 || (counts == cells * depth && marks == cells * (depth + 2)), "the sizes for bare cells");
+        expect(expect_scratch(sheet, 56 * cells, depth) == (number == 0), "up to 4,096 bare cells are accepted");
+    }
+    free(sheet);
+}
+
+/* The longest sheet, and one byte more: zeros, whose first record is broken. */
+static void test_longest_sheet(void)
+{
+    uint8_t *sheet = (uint8_t *)calloc(RIBALTZEN_MOST_SHEET + 1, 1);
+    size_t counts, marks;
+    if (sheet == NULL) {
+        abort();
+    }
+    expect(ribaltzen_scratch(sheet, RIBALTZEN_MOST_SHEET + 1, 1, &counts, &marks) == 1, "a byte too many");
+    expect(expect_scratch(sheet, RIBALTZEN_MOST_SHEET + 1, 1) == 0, "a byte too many is refused");
+    expect(ribaltzen_scratch(sheet, RIBALTZEN_MOST_SHEET, 1, &counts, &marks) == 2, "a record of length 0");
+    expect(expect_scratch(sheet, RIBALTZEN_MOST_SHEET, 1) == 0, "a record of length 0 is refused");
+    free(sheet);
+}
+
+/* Changed and cut sheets, each in a block of its own that ends with it. */
+static void test_changed_sheets(void)
+{
+    struct bytes sound = sheet_of_every_kind();
+    size_t round, accepted = 0;
+    for (round = 0; round < 20000; round++) {
+        size_t length = round % 2 ? sound.length : random_below(sound.length + 1);
+        uint8_t *sheet = (uint8_t *)malloc(length > 0 ? length : 1);
+        if (sheet == NULL) {
+            abort();
+        }
+        memcpy(sheet, sound.at, length);
+        if (length > 0) {
+            sheet[random_below(length)] = (uint8_t)random_below(256);
+        }
+        accepted += (size_t)expect_scratch(sheet, length, (uint32_t)random_below(35));
+        free(sheet);
+    }
+    expect(accepted > 1000 && accepted < 19000, "some changed sheets are accepted, some refused");
+}
+
+void test_scratch(void)
+{
+    size_t cells;
+    scratch = (struct scratch *)malloc(sizeof *scratch);
+    if (scratch == NULL) {
+        abort();
+    }
+    for (cells = 0; cells < 8; cells++) {
+        test_cells(cells, 0, 32, 0);
+        test_cells(cells, 33, 34, RIBALTZEN_TOO_DEEP);
+        test_cells(cells, UINT32_MAX - 2, UINT32_MAX - 1, RIBALTZEN_TOO_DEEP);
+    }
+    test_cells(4096, 30, 32, 0);
+    test_cells(4097, 31, 34, RIBALTZEN_TOO_MANY_CELLS);
+    test_longest_sheet();
+    test_changed_sheets();
+    free(scratch);
+}
