@@ -1,11 +1,11 @@
 /* Ribaltzen: the scene planner for C programs.
  *
- * Link target/staticlib/libplanner_c.a, which `rt staticlib planner_c` writes (x86-64 Linux). Its function scene_plan is
- * proved to end, to read and write only what is lent, and to answer as document 01 says, for any bytes, any query and
- * any lent memory. That proof is about callers that keep to this page. The static inline functions here and in
+ * Link target/staticlib/libplanner_c.a, which `rt staticlib planner_c` writes (x86-64 Linux). Its one function,
+ * scene_plan, is proved to end, to read and write only what is lent, and to answer as document 01 says, for any bytes,
+ * any query and any lent memory. That proof is about callers that keep to this page. The inline functions here and in
  * ribaltzen_tape.h, which reads a tape, are tested, not proved.
  *
- * docs/FORMATS.md has the formats of sheet and tape; example.c beside this file is a whole program.
+ * docs/FORMATS.md has the formats of sheet and tape. example.c, beside this file, is a whole program.
  *
  * Licence: MIT, see LICENSE and NOTICE.
  */
@@ -66,14 +66,14 @@ enum {
  *
  *   - Each pointer with a length points to that many elements, and is not NULL even where the length is 0: any address
  *     of the right alignment will do there. offset and length point to one size_t each.
- *   - hidden is aligned as uint32_t, counts as uint64_t, offset and length as size_t; sheet, out and marks as bytes are.
+ *   - hidden is aligned as uint32_t, counts as uint64_t, offset and length as size_t; sheet, out and marks as bytes.
  *   - out, counts, marks, *offset and *length do not overlap each other, nor sheet or hidden.
  *   - No other thread writes any of these during the call, or reads what the call writes. Calls on separate memory may
  *     run at the same time: the library keeps no state.
- *   - The float environment is the one that a thread starts with: round to nearest, no flushing, no traps. In the
- *     register MXCSR, which each thread has of its own, rounding control is 0, flush-to-zero and denormals-are-zero are
- *     clear, and the exceptions are masked. Under another rounding or with flushing the same call answers differently,
- *     and nothing says so; test_floats.c shows it of each. Code compiled with -ffast-math may set flushing at start-up.
+ *   - The float environment is as the system sets it: round to nearest, no flushing, no traps. That is MXCSR, a
+ *     register of each thread, with rounding control 0, flush-to-zero and denormals-are-zero clear, and all exceptions
+ *     masked. Under another rounding or with flushing a call gives another plan, and nothing says so; test_floats.c
+ *     shows each. A program that was linked with -ffast-math, or loads a library that was, may start with flushing set.
  *   - No length is above PTRDIFF_MAX bytes, which no real object is.
  *   - The thread has 128 KiB of stack left: no proof covers the stack. The most seen is 84,816 bytes.
  *
@@ -94,9 +94,9 @@ uint32_t scene_plan(const uint8_t *sheet, size_t sheet_length,
 #define RIBALTZEN_MOST_SHEET ((size_t)16777216) /* bytes */
 #define RIBALTZEN_MOST_CELLS ((size_t)4096)
 #define RIBALTZEN_MOST_DEPTH ((uint32_t)32)
-#define RIBALTZEN_MOST_TAPE ((size_t)5360054)       /* 100,000 proxies, 20,000 batches and the totals, in bytes */
-#define RIBALTZEN_MOST_COUNTS ((size_t)(4096 * 32)) /* cells * depth, in places of 64 bits */
-#define RIBALTZEN_MOST_MARKS ((size_t)(4096 * 34))  /* cells * (depth + 2), in bytes */
+#define RIBALTZEN_MOST_TAPE ((size_t)5360054) /* bytes: 100,000 proxies, 20,000 batches and the totals */
+#define RIBALTZEN_MOST_COUNTS (RIBALTZEN_MOST_CELLS * RIBALTZEN_MOST_DEPTH)      /* places of 64 bits */
+#define RIBALTZEN_MOST_MARKS (RIBALTZEN_MOST_CELLS * (RIBALTZEN_MOST_DEPTH + 2)) /* bytes */
 
 /* The question that a number of scene_plan answers "no" to, in the words of docs/FORMATS.md. */
 static inline const char *ribaltzen_refusal(uint32_t number)
@@ -122,7 +122,7 @@ static inline const char *ribaltzen_refusal(uint32_t number)
     }
 }
 
-/* The little-endian number in so many bytes, at most 8, at an address of any alignment: a field of a sheet or a tape. */
+/* A field of a sheet or tape: the little-endian number in so many bytes, at most 8, at an address of any alignment. */
 static inline uint64_t ribaltzen_field(const uint8_t *at, size_t bytes)
 {
     uint64_t value = 0;
@@ -133,11 +133,12 @@ static inline uint64_t ribaltzen_field(const uint8_t *at, size_t bytes)
     return value;
 }
 
-/* The scratch that a sheet and a depth name: *counts places of 64 bits and *marks bytes, found by one pass over the
- * records. Returns 0, or with both sizes 0 one of the numbers 1, 2, 7 and 10: scene_plan then refuses too, with that
- * number or that of an earlier question, whatever scratch it is lent. Nothing else of the sheet is looked at, so after 0
- * a call may still be refused, but with scratch of these sizes or more never with 11. A size may be 0, for which malloc
- * may answer NULL, and scene_plan takes none. */
+/* The scratch that a sheet and a depth need: *counts places of 64 bits and *marks bytes, by one pass over the records.
+ *
+ * Returns 0 and the sizes, or one of the numbers 1, 2, 7 and 10 and sizes 0: scene_plan then refuses too, whatever
+ * scratch it is lent, with that number or that of a question asked before it. Only the records' heads are looked at, so
+ * after 0 a call may still be refused, but with scratch of these sizes never with 11. A size may be 0: malloc(0) may be
+ * NULL, which scene_plan does not take. */
 static inline uint32_t ribaltzen_scratch(const uint8_t *sheet, size_t sheet_length, uint32_t depth,
                                          size_t *counts, size_t *marks)
 {

@@ -8,9 +8,9 @@
  *     }
  *     if (more != 0) { the tape is damaged at cursor.offset, and cursor.damage says how }
  *
- * Any bytes may be given: nothing is read past their length, from any alignment. A tape that scene_plan wrote is never
- * damaged. One that was cut or changed may be, and is not taken for a shorter plan: only totals, as the last record, end
- * it well. Changed bytes within a record's body cannot be told from others.
+ * Any bytes may be given, at any alignment: nothing is read past their length. A tape that scene_plan wrote is never
+ * damaged. One that was cut is, wherever it was cut: only totals, as the last record, end a tape well. Changed bytes in
+ * the body of a record cannot be told from others.
  *
  * Nothing of the library is linked, and nothing is allocated.
  *
@@ -185,10 +185,12 @@ static inline struct ribaltzen_totals ribaltzen_totals_at(const uint8_t *at)
     return totals;
 }
 
-/* The fields of a whole record of a known kind, from its first byte on. */
+/* The fields of a whole record of a known kind, from its first byte on. What the kind does not use is zero: else
+ * compilers warn of it where a caller's switch is inlined. */
 static inline void ribaltzen_read(const uint8_t *at, struct ribaltzen_record *record)
 {
     const uint64_t kind = ribaltzen_field(at + 4, 2);
+    memset(record, 0, sizeof *record);
     record->kind = (enum ribaltzen_kind)kind;
     switch (record->kind) {
     case RIBALTZEN_BATCH:
@@ -219,7 +221,7 @@ static inline void ribaltzen_read(const uint8_t *at, struct ribaltzen_record *re
     }
 }
 
-/* Reads the next record: 1 and the record, 0 behind the totals at the end of the bytes, or -1 for damage. 0 and -1 leave
+/* Reads the next record: answers 1 and the record, 0 at the end of a whole tape, or -1 for damage. 0 and -1 leave
  * *record as it is, and every later call answers the same. */
 static inline int ribaltzen_next(struct ribaltzen_cursor *cursor, struct ribaltzen_record *record)
 {

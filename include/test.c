@@ -1,5 +1,5 @@
-/* The test of ribaltzen.h and ribaltzen_tape.h: header_test CARGO_TOML FORMATS_MD, the files to which version and words
- * are held. tools/library compiles it with include/test_*.c and the library, with all warnings as errors, and runs it. */
+/* The test of ribaltzen.h and ribaltzen_tape.h: header_test CARGO_TOML FORMATS_MD, the files to which version and
+ * words are held. tools/library compiles it with the other test_ files, warnings as errors, and runs it. */
 #include "test.h"
 
 #include <stdio.h>

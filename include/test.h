@@ -32,7 +32,8 @@ void put_float(struct bytes *to, double value);
 void put_batch(struct bytes *to, uint16_t layer, uint32_t elements, const double bbox[4]);
 void put_text(struct bytes *to, uint16_t layer, double x, double y);
 void put_node(struct bytes *to, uint16_t layer, uint16_t node_type, const double *points, size_t count);
-void put_reference(struct bytes *to, uint32_t cell, const double origin[2], const double cos_sin[2], const double bbox[4]);
+void put_reference(struct bytes *to, uint32_t cell, const double origin[2], const double cos_sin[2],
+                   const double bbox[4]);
 
 /* A cell with one direct draw unit and a box, that holds `counts` numbers, 0 and up, of each kind. */
 void put_cell(struct bytes *to, const double bbox[4], const uint16_t counts[4]);
@@ -41,7 +42,7 @@ void put_cell(struct bytes *to, const double bbox[4], const uint16_t counts[4]);
 struct bytes worked_sheet(void);
 struct bytes worked_tape(void);
 
-/* A sheet with a batch, a text, a node and a reference to a small cell; at depth 4 its tape has records of every kind. */
+/* A sheet with a batch, a text, a node and a reference to a small cell: its tape at depth 4 has each kind of record. */
 struct bytes sheet_of_every_kind(void);
 
 /* ---- test_plan.c */

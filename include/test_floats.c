@@ -1,5 +1,5 @@
-/* Why ribaltzen.h asks for the float environment that a thread starts with: under each other rounding, with each
- * flushing, and with traps, a call does not answer as it should. A case that fails here is a duty that is not needed. */
+/* Why ribaltzen.h asks for the system's float environment: under each other rounding and with each flushing a call
+ * gives another plan, and a trap ends the process. If one no longer does, the header asks for more than is needed. */
 #define _POSIX_C_SOURCE 200809L
 #include "ribaltzen_tape.h"
 #include "test.h"
@@ -31,7 +31,7 @@ static const struct placed sums = { { 0.1, 0.2 }, { 0.2, 0.7 }, 1.0 };
 static const struct placed denormal_result = { { 2.2250738585072014e-308, 0.0 }, { 0.0, 0.0 }, 0.5 };
 
 /* The least float, a denormal input, magnified to a normal one: times 2^100. */
-static const struct placed denormal_input = { { 4.9406564584124654e-324, 0.0 }, { 0.0, 0.0 }, 1267650600228229401496703205376.0 };
+static const struct placed denormal_input = { { 4.9406564584124654e-324, 0.0 }, { 0.0, 0.0 }, 1.2676506002282294e30 };
 
 static struct bytes sheet_of(const struct placed *placed)
 {

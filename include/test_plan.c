@@ -56,7 +56,8 @@ static void test_length_after_12(const struct bytes *sheet, uint32_t depth)
         uint32_t number = plan_with(sheet, depth, 1.0, out, 256, 256, &lent);
         expect(number == RIBALTZEN_OUTPUT_TOO_SHORT && lent.offset == 0, "a shorter output is refused with 12");
         expect(lent.length == whole.length, "the length after 12 is the tape's");
-        expect(all(lent.out, out, 0) && all(lent.out + out, sizeof lent.out - out, 0xa5), "12 zeroes the lent output");
+        expect(all(lent.out, out, 0), "12 zeroes the lent output");
+        expect(all(lent.out + out, sizeof lent.out - out, 0xa5), "12 leaves what was not lent");
         expect(memcmp(lent.counts, whole.counts, sizeof lent.counts) == 0, "12 leaves counts as a plan does");
         expect(memcmp(lent.marks, whole.marks, sizeof lent.marks) == 0, "12 leaves marks as a plan does");
     }
@@ -65,7 +66,7 @@ static void test_length_after_12(const struct bytes *sheet, uint32_t depth)
     expect(lent.length == out && memcmp(lent.out, whole.out, out) == 0, "and the tape fills it");
 }
 
-/* Changed and cut sheets: a number of the list, no length but for a plan and after 12, and an offset within the sheet. */
+/* Changed and cut sheets: a number from 0 to 12, a length for a plan and after 12, an offset within the sheet. */
 static void test_hostile_bytes(void)
 {
     struct bytes sound = sheet_of_every_kind(), sheet;
@@ -85,9 +86,11 @@ static void test_hostile_bytes(void)
         expect(number < 1 || number > 11 || lent.length == 0, "numbers 1 to 11 have no length");
         expect(number != 12 || lent.length > out, "after 12 more than the lent output is needed");
         expect(number != 0 || (lent.length >= 54 && lent.length <= out), "a plan lies within the output");
-        expect(lent.offset == 0 || (number >= 2 && number <= 6 && lent.offset < sheet.length), "an offset is a record's");
+        expect(lent.offset == 0 || (number >= 2 && number <= 6), "only numbers 2 to 6 have an offset");
+        expect(lent.offset == 0 || lent.offset < sheet.length, "an offset lies within the sheet");
     }
-    expect(seen[0] > 100 && seen[2] > 100 && seen[6] > 100 && seen[11] > 100 && seen[12] > 100, "all sorts of answers come");
+    expect(seen[0] > 100 && seen[2] > 100 && seen[6] > 100, "plans and refused sheets come up");
+    expect(seen[10] > 100 && seen[11] > 100 && seen[12] > 100, "refused depths, scratch and outputs come up");
 }
 
 void test_plan(void)

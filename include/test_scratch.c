@@ -6,8 +6,8 @@
 
 /* Memory of the sizes that are always enough. */
 struct scratch {
-    uint64_t counts[4096 * 32];
-    uint8_t marks[4096 * 34];
+    uint64_t counts[RIBALTZEN_MOST_COUNTS];
+    uint8_t marks[RIBALTZEN_MOST_MARKS];
     uint8_t out[8192];
 };
 
@@ -17,15 +17,15 @@ static uint32_t number_with(const uint8_t *sheet, size_t length, uint32_t depth,
 {
     static const uint32_t hidden[1] = { 0 };
     size_t offset, tape;
-    return scene_plan(sheet, length, 0, depth, 0.0, 0.0, 100.0, 100.0, 1.0, hidden, 0, scratch->out, sizeof scratch->out,
-                      scratch->counts, counts, scratch->marks, marks, &offset, &tape);
+    return scene_plan(sheet, length, 0, depth, 0.0, 0.0, 100.0, 100.0, 1.0, hidden, 0, scratch->out,
+                      sizeof scratch->out, scratch->counts, counts, scratch->marks, marks, &offset, &tape);
 }
 
 /* A number's place in the order in which questions are asked: 2 to 5 record by record, and 7 before 6. */
 static int place_of(uint32_t number)
 {
     static const int places[13] = { 9, 0, 1, 1, 1, 1, 3, 2, 4, 5, 6, 7, 8 }; /* a plan comes after all questions */
-    return places[number];
+    return places[number <= 12 ? number : 0];
 }
 
 /* Holds the sizes for a sheet and a depth to scene_plan. Returns whether the sheet is accepted. */
@@ -37,7 +37,7 @@ static int expect_scratch(const uint8_t *sheet, size_t length, uint32_t depth)
         answer = number_with(sheet, length, depth, RIBALTZEN_MOST_COUNTS, RIBALTZEN_MOST_MARKS);
         expect(counts == 0 && marks == 0, "a refusal gives no sizes");
         expect(number == 1 || number == 2 || number == 7 || number == 10, "a refusal is 1, 2, 7 or 10");
-        expect(place_of(answer) <= place_of(number), "scene_plan refuses with that number or one that is asked earlier");
+        expect(place_of(answer) <= place_of(number), "scene_plan refuses with that number or one asked before it");
         return 0;
     }
     expect(counts <= RIBALTZEN_MOST_COUNTS && marks <= RIBALTZEN_MOST_MARKS, "the sizes are within the greatest");

@@ -63,7 +63,8 @@ void put_node(struct bytes *to, uint16_t layer, uint16_t node_type, const double
     put_floats(to, points, 2 * count);
 }
 
-void put_reference(struct bytes *to, uint32_t cell, const double origin[2], const double cos_sin[2], const double bbox[4])
+void put_reference(struct bytes *to, uint32_t cell, const double origin[2], const double cos_sin[2],
+                   const double bbox[4])
 {
     static const double spacings[4] = { 0.0, 0.0, 0.0, 0.0 };
     put_head(to, 122, 4);

@@ -39,10 +39,12 @@ static struct reading read_all(const uint8_t *bytes, size_t length)
     return reading;
 }
 
-static void expect_reading(const uint8_t *bytes, size_t length, size_t records, size_t offset, enum ribaltzen_damage damage)
+static void expect_reading(const uint8_t *bytes, size_t length, size_t records, size_t offset,
+                           enum ribaltzen_damage damage)
 {
     struct reading reading = read_all(bytes, length);
-    expect(reading.records == records && reading.offset == offset && reading.damage == damage, ribaltzen_damage(damage));
+    expect(reading.records == records && reading.offset == offset, "damage is found where it is");
+    expect(reading.damage == damage, ribaltzen_damage(damage));
 }
 
 static int is_pair(const double pair[2], double x, double y)
@@ -196,7 +198,8 @@ static void test_other_ends(const uint8_t *tape, size_t length)
     for (more = 1; more <= length; more++) {
         expect_reading(twice, length + more, 6, length, RIBALTZEN_TAPE_BEHIND_TOTALS);
     }
-    expect(ribaltzen_next(&nothing, &record) == -1 && nothing.damage == RIBALTZEN_TAPE_NO_TOTALS, "no bytes are no tape");
+    expect(ribaltzen_next(&nothing, &record) == -1, "no bytes are no tape");
+    expect(nothing.damage == RIBALTZEN_TAPE_NO_TOTALS, "no bytes have no totals");
 }
 
 /* Writes up to 12 records with random bodies, most heads right and the last mostly totals. Returns their length. */

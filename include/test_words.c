@@ -22,7 +22,8 @@ static int has_line(const char *file, const char *start, const char *words)
 static void test_version(const char *cargo)
 {
     char parts[32];
-    snprintf(parts, sizeof parts, "%d.%d.%d", RIBALTZEN_VERSION_MAJOR, RIBALTZEN_VERSION_MINOR, RIBALTZEN_VERSION_PATCH);
+    snprintf(parts, sizeof parts, "%d.%d.%d", RIBALTZEN_VERSION_MAJOR, RIBALTZEN_VERSION_MINOR,
+             RIBALTZEN_VERSION_PATCH);
     expect(strcmp(parts, RIBALTZEN_VERSION) == 0, "the version is its parts");
     expect(has_line(cargo, "version = ", "\"" RIBALTZEN_VERSION "\""), "the version is the Rust package's");
 }
