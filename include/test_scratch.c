@@ -28,6 +28,11 @@ static int place_of(uint32_t number)
     return places[number <= 12 ? number : 0];
 }
 
+static int is_of_heads_or_depth(uint32_t number)
+{
+    return number == 1 || number == 2 || number == 7 || number == 10;
+}
+
 /* Holds the sizes for a sheet and a depth to scene_plan. Returns whether the sheet is accepted. */
 static int expect_scratch(const uint8_t *sheet, size_t length, uint32_t depth)
 {
@@ -36,13 +41,14 @@ static int expect_scratch(const uint8_t *sheet, size_t length, uint32_t depth)
     if (number != 0) {
         answer = number_with(sheet, length, depth, RIBALTZEN_MOST_COUNTS, RIBALTZEN_MOST_MARKS);
         expect(counts == 0 && marks == 0, "a refusal gives no sizes");
-        expect(number == 1 || number == 2 || number == 7 || number == 10, "a refusal is 1, 2, 7 or 10");
+        expect(is_of_heads_or_depth(number), "a refusal is 1, 2, 7 or 10");
         expect(place_of(answer) <= place_of(number), "scene_plan refuses with that number or one asked before it");
         return 0;
     }
     expect(counts <= RIBALTZEN_MOST_COUNTS && marks <= RIBALTZEN_MOST_MARKS, "the sizes are within the greatest");
     answer = number_with(sheet, length, depth, counts, marks);
     expect(answer != RIBALTZEN_SCRATCH_TOO_SHORT, "the sizes are enough");
+    expect(!is_of_heads_or_depth(answer), "what scene_plan refuses with 1, 2, 7 or 10 has no sizes");
     if (answer != RIBALTZEN_PLANNED && answer != RIBALTZEN_OUTPUT_TOO_SHORT) {
         return 0;
     }
@@ -90,6 +96,28 @@ static void test_longest_sheet(void)
     free(sheet);
 }
 
+/* One record's head and zeros, so many bytes in all: only a length of 6 or more that ends with the sheet is sound. */
+static void test_heads(void)
+{
+    static const uint8_t overlapping[11] = { 5, 0, 0, 0, 0, 6, 0, 0, 0, 0, 0 };
+    size_t bytes, counts, marks;
+    uint8_t length;
+    for (bytes = 1; bytes <= 13; bytes++) {
+        for (length = 0; length <= 14; length++) {
+            uint8_t *sheet = (uint8_t *)calloc(bytes, 1);
+            uint32_t number = length >= 6 && length == bytes ? RIBALTZEN_PLANNED : RIBALTZEN_BROKEN_RECORD;
+            if (sheet == NULL) {
+                abort();
+            }
+            sheet[0] = length;
+            expect(ribaltzen_scratch(sheet, bytes, 1, &counts, &marks) == number, "the number for a head");
+            expect(expect_scratch(sheet, bytes, 1) == 0, "a head alone is not accepted");
+            free(sheet);
+        }
+    }
+    expect(ribaltzen_scratch(overlapping, 11, 1, &counts, &marks) == 2, "a record is not shorter than its head");
+}
+
 /* Changed and cut sheets, each in a block of its own that ends with it. */
 static void test_changed_sheets(void)
 {
@@ -126,6 +154,7 @@ void test_scratch(void)
     test_cells(4096, 30, 32, 0);
     test_cells(4097, 31, 34, RIBALTZEN_TOO_MANY_CELLS);
     test_longest_sheet();
+    test_heads();
     test_changed_sheets();
     free(scratch);
 }
