@@ -46,7 +46,7 @@ enum {
  *
  *   sheet, hidden         read only
  *   root, depth, min_x, min_y, max_x, max_y, zoom
- *                         the query; a hidden layer is layer * 65536 + data type
+ *                         the query; a hidden layer is layer * 65536 + data type (for a node its node type)
  *   out                   takes the tape
  *   counts, marks         scratch: cells * depth places and cells * (depth + 2) bytes of it are named, that is used;
  *                         what they hold before the call does not matter
@@ -60,7 +60,8 @@ enum {
  *   12        what would be enough     all zero, to its end      the named places zero, the rest as lent
  *   0         the tape's               the tape, then as lent    the named places zero, the rest as lent
  *
- * "Enough" is exact: the same call with an output of that many bytes is planned, and its tape fills it.
+ * "Enough" is exact: the same call with an output of that many bytes is planned, and its tape fills it. A call with no
+ * output so asks for the length, at the cost of a whole plan.
  *
  * What the caller owes, for nothing tests it:
  *
@@ -72,7 +73,7 @@ enum {
  *     run at the same time: the library keeps no state.
  *   - The float environment is as the system sets it: round to nearest, no flushing, no traps. That is MXCSR, a
  *     register of each thread, with rounding control 0, flush-to-zero and denormals-are-zero clear, and all exceptions
- *     masked. Under another rounding or with flushing a call gives another plan, and nothing says so; test_floats.c
+ *     masked. Under another rounding or with flushing a call can give another plan, and nothing says so: test_floats.c
  *     shows each. A program that was linked with -ffast-math, or loads a library that was, may start with flushing set.
  *   - No length is above PTRDIFF_MAX bytes, which no real object is.
  *   - The thread has 128 KiB of stack left: no proof covers the stack. The most seen is 84,816 bytes.

@@ -1,5 +1,6 @@
-/* The test of ribaltzen.h and ribaltzen_tape.h: header_test CARGO_TOML FORMATS_MD, the files to which version and
- * words are held. tools/library compiles it with the other test_ files, warnings as errors, and runs it. */
+/* The test of ribaltzen.h and ribaltzen_tape.h: header_test CARGO_TOML FORMATS_MD CASES. The files are those to which
+ * version and words are held (rust/Cargo.toml, docs/FORMATS.md), and the stored cases (crates/plan_vectors/stdin).
+ * tools/library compiles it with the other test_ files, warnings as errors, and runs it. */
 #include "test.h"
 
 #include <stdio.h>
@@ -33,13 +34,14 @@ size_t random_below(size_t bound)
 
 int main(int count, char **arguments)
 {
-    if (count != 3) {
-        fputs("usage: header_test CARGO_TOML FORMATS_MD\n", stderr);
+    if (count != 4) {
+        fputs("usage: header_test CARGO_TOML FORMATS_MD CASES\n", stderr);
         return 2;
     }
     test_plan();
     test_words(arguments[1], arguments[2]);
     test_scratch();
+    test_stored(arguments[3]);
     test_tape();
     test_floats();
     puts(failed ? "the headers' test failed" : "the headers' test passed");

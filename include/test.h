@@ -62,11 +62,30 @@ uint32_t plan_with(const struct bytes *sheet, uint32_t depth, double zoom, size_
 /* The same with all of the memory. */
 uint32_t plan(const struct bytes *sheet, uint32_t depth, double zoom, struct lent *lent);
 
+/* ---- test_scratch.c */
+
+/* What is asked: a sheet and a query. */
+struct asked {
+    const uint8_t *sheet;
+    size_t sheet_length;
+    uint32_t root, depth;
+    double view[4], zoom;
+    const uint32_t *hidden;
+    size_t hidden_length;
+};
+
+/* Calls scene_plan with so much memory, at most the sizes that are always enough. */
+uint32_t ask(const struct asked *asked, size_t out, size_t counts, size_t marks, size_t *length);
+
+/* Holds the sizes that ribaltzen_scratch gives to scene_plan. Returns whether the call is accepted. */
+int expect_scratch(const struct asked *asked);
+
 /* ---- the tests, one for each file */
 
 void test_plan(void);
 void test_words(const char *cargo, const char *formats);
 void test_scratch(void);
+void test_stored(const char *cases);
 void test_tape(void);
 void test_floats(void);
 

@@ -4,21 +4,15 @@
 #include <stdlib.h>
 #include <string.h>
 
-/* Memory of the sizes that are always enough. */
-struct scratch {
-    uint64_t counts[RIBALTZEN_MOST_COUNTS];
-    uint8_t marks[RIBALTZEN_MOST_MARKS];
-    uint8_t out[8192];
-};
+static uint8_t lent_out[RIBALTZEN_MOST_TAPE], lent_marks[RIBALTZEN_MOST_MARKS];
+static uint64_t lent_counts[RIBALTZEN_MOST_COUNTS];
 
-static struct scratch *scratch;
-
-static uint32_t number_with(const uint8_t *sheet, size_t length, uint32_t depth, size_t counts, size_t marks)
+uint32_t ask(const struct asked *asked, size_t out, size_t counts, size_t marks, size_t *length)
 {
-    static const uint32_t hidden[1] = { 0 };
-    size_t offset, tape;
-    return scene_plan(sheet, length, 0, depth, 0.0, 0.0, 100.0, 100.0, 1.0, hidden, 0, scratch->out,
-                      sizeof scratch->out, scratch->counts, counts, scratch->marks, marks, &offset, &tape);
+    size_t offset;
+    return scene_plan(asked->sheet, asked->sheet_length, asked->root, asked->depth, asked->view[0], asked->view[1],
+                      asked->view[2], asked->view[3], asked->zoom, asked->hidden, asked->hidden_length, lent_out, out,
+                      lent_counts, counts, lent_marks, marks, &offset, length);
 }
 
 /* A number's place in the order in which questions are asked: 2 to 5 record by record, and 7 before 6. */
@@ -33,28 +27,45 @@ static int is_of_heads_or_depth(uint32_t number)
     return number == 1 || number == 2 || number == 7 || number == 10;
 }
 
-/* Holds the sizes for a sheet and a depth to scene_plan. Returns whether the sheet is accepted. */
-static int expect_scratch(const uint8_t *sheet, size_t length, uint32_t depth)
+/* The number for a call with so much scratch. */
+static uint32_t number_with(const struct asked *asked, size_t counts, size_t marks)
+{
+    size_t length;
+    return ask(asked, RIBALTZEN_MOST_TAPE, counts, marks, &length);
+}
+
+int expect_scratch(const struct asked *asked)
 {
     size_t counts = 99, marks = 99;
-    uint32_t number = ribaltzen_scratch(sheet, length, depth, &counts, &marks), answer;
+    uint32_t number = ribaltzen_scratch(asked->sheet, asked->sheet_length, asked->depth, &counts, &marks), answer;
     if (number != 0) {
-        answer = number_with(sheet, length, depth, RIBALTZEN_MOST_COUNTS, RIBALTZEN_MOST_MARKS);
+        answer = number_with(asked, RIBALTZEN_MOST_COUNTS, RIBALTZEN_MOST_MARKS);
         expect(counts == 0 && marks == 0, "a refusal gives no sizes");
         expect(is_of_heads_or_depth(number), "a refusal is 1, 2, 7 or 10");
         expect(place_of(answer) <= place_of(number), "scene_plan refuses with that number or one asked before it");
         return 0;
     }
     expect(counts <= RIBALTZEN_MOST_COUNTS && marks <= RIBALTZEN_MOST_MARKS, "the sizes are within the greatest");
-    answer = number_with(sheet, length, depth, counts, marks);
+    answer = number_with(asked, counts, marks);
     expect(answer != RIBALTZEN_SCRATCH_TOO_SHORT, "the sizes are enough");
     expect(!is_of_heads_or_depth(answer), "what scene_plan refuses with 1, 2, 7 or 10 has no sizes");
-    if (answer != RIBALTZEN_PLANNED && answer != RIBALTZEN_OUTPUT_TOO_SHORT) {
+    if (answer != RIBALTZEN_PLANNED) {
         return 0;
     }
-    expect(counts == 0 || number_with(sheet, length, depth, counts - 1, marks) == 11, "a count less is too few");
-    expect(marks == 0 || number_with(sheet, length, depth, counts, marks - 1) == 11, "a mark less is too few");
+    expect(counts == 0 || number_with(asked, counts - 1, marks) == 11, "a count less is too few");
+    expect(marks == 0 || number_with(asked, counts, marks - 1) == 11, "a mark less is too few");
     return 1;
+}
+
+/* The same for a sheet and a depth, under a query of our own. */
+static int expect_sheet(const uint8_t *sheet, size_t length, uint32_t depth)
+{
+    static const uint32_t hidden[1] = { 0 };
+    struct asked asked = { NULL, 0, 0, 0, { 0.0, 0.0, 100.0, 100.0 }, 1.0, hidden, 0 };
+    asked.sheet = sheet;
+    asked.sheet_length = length;
+    asked.depth = depth;
+    return expect_scratch(&asked);
 }
 
 /* So many bare cells, at each depth of a range. */
@@ -76,7 +87,7 @@ static void test_cells(size_t cells, uint32_t least_depth, uint32_t most_depth, 
     for (depth = least_depth; depth <= most_depth; depth++) {
         expect(ribaltzen_scratch(sheet, 56 * cells, depth, &counts, &marks) == number, "the number for bare cells");
         expect(number != 0 || (counts == cells * depth && marks == cells * (depth + 2)), "the sizes for bare cells");
-        expect(expect_scratch(sheet, 56 * cells, depth) == (number == 0), "up to 4,096 bare cells are accepted");
+        expect(expect_sheet(sheet, 56 * cells, depth) == (number == 0), "up to 4,096 bare cells are accepted");
     }
     free(sheet);
 }
@@ -90,9 +101,9 @@ static void test_longest_sheet(void)
         abort();
     }
     expect(ribaltzen_scratch(sheet, RIBALTZEN_MOST_SHEET + 1, 1, &counts, &marks) == 1, "a byte too many");
-    expect(expect_scratch(sheet, RIBALTZEN_MOST_SHEET + 1, 1) == 0, "a byte too many is refused");
+    expect(expect_sheet(sheet, RIBALTZEN_MOST_SHEET + 1, 1) == 0, "a byte too many is refused");
     expect(ribaltzen_scratch(sheet, RIBALTZEN_MOST_SHEET, 1, &counts, &marks) == 2, "a record of length 0");
-    expect(expect_scratch(sheet, RIBALTZEN_MOST_SHEET, 1) == 0, "a record of length 0 is refused");
+    expect(expect_sheet(sheet, RIBALTZEN_MOST_SHEET, 1) == 0, "a record of length 0 is refused");
     free(sheet);
 }
 
@@ -111,7 +122,7 @@ static void test_heads(void)
             }
             sheet[0] = length;
             expect(ribaltzen_scratch(sheet, bytes, 1, &counts, &marks) == number, "the number for a head");
-            expect(expect_scratch(sheet, bytes, 1) == 0, "a head alone is not accepted");
+            expect(expect_sheet(sheet, bytes, 1) == 0, "a head alone is not accepted");
             free(sheet);
         }
     }
@@ -133,7 +144,7 @@ static void test_changed_sheets(void)
         if (length > 0) {
             sheet[random_below(length)] = (uint8_t)random_below(256);
         }
-        accepted += (size_t)expect_scratch(sheet, length, (uint32_t)random_below(35));
+        accepted += (size_t)expect_sheet(sheet, length, (uint32_t)random_below(35));
         free(sheet);
     }
     expect(accepted > 1000 && accepted < 19000, "some changed sheets are accepted, some refused");
@@ -142,10 +153,6 @@ static void test_changed_sheets(void)
 void test_scratch(void)
 {
     size_t cells;
-    scratch = (struct scratch *)malloc(sizeof *scratch);
-    if (scratch == NULL) {
-        abort();
-    }
     for (cells = 0; cells < 8; cells++) {
         test_cells(cells, 0, 32, 0);
         test_cells(cells, 33, 34, RIBALTZEN_TOO_DEEP);
@@ -156,5 +163,4 @@ void test_scratch(void)
     test_longest_sheet();
     test_heads();
     test_changed_sheets();
-    free(scratch);
 }
