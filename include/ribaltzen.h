@@ -76,7 +76,7 @@ enum {
  *     masked. Under another rounding or with flushing a call can give another plan, and nothing says so: test_floats.c
  *     shows each. A program that was linked with -ffast-math, or loads a library that was, may start with flushing set.
  *   - No length is above PTRDIFF_MAX bytes, which no real object is.
- *   - The thread has 128 KiB of stack left: no proof covers the stack. The most seen is 84,816 bytes.
+ *   - The thread has 128 KiB of stack left: no proof covers the stack. docs/FORMATS.md has what was measured.
  *
  * How long a call takes is not bounded by anything useful: every call ends, but a small sheet can name a very large
  * number of members to visit. A host that opens strangers' sheets plans on a thread or process that it can end.

@@ -73,14 +73,15 @@ static void test_hostile_bytes(void)
     struct lent lent;
     size_t round, changes, seen[13] = { 0 };
     for (round = 0; round < 20000; round++) {
-        size_t out = random_below(sizeof lent.out + 1);
+        const size_t out = random_below(sizeof lent.out + 1), counts = random_below(70), marks = random_below(70);
+        const uint32_t depth = (uint32_t)random_below(35);
         uint32_t number;
         sheet = sound;
         for (changes = random_below(4); changes > 0; changes--) {
             sheet.at[random_below(sheet.length)] = (uint8_t)random_below(256);
         }
         sheet.length -= random_below(8) == 0 ? random_below(sheet.length) : 0;
-        number = plan_with(&sheet, (uint32_t)random_below(35), 1.0, out, random_below(70), random_below(70), &lent);
+        number = plan_with(&sheet, depth, 1.0, out, counts, marks, &lent);
         expect(number <= 12, "the number is 0 to 12");
         seen[number <= 12 ? number : 0]++;
         expect(number < 1 || number > 11 || lent.length == 0, "numbers 1 to 11 have no length");
