@@ -43,6 +43,7 @@ int main(int count, char **arguments)
     test_scratch();
     test_stored(arguments[3]);
     test_tape();
+    test_damage();
     test_floats();
     puts(failed ? "the headers' test failed" : "the headers' test passed");
     return failed;

@@ -24,9 +24,10 @@ struct bytes {
     size_t length;
 };
 
-/* A little-endian number, and a float, behind what is there. */
+/* A little-endian number, a float, and a record's head, behind what is there. */
 void put(struct bytes *to, uint64_t value, size_t bytes);
 void put_float(struct bytes *to, double value);
+void put_head(struct bytes *to, size_t length, uint16_t kind);
 
 /* Records of a sheet. A reference places cell `cell` once, turned by cos and sin, and has its box. */
 void put_batch(struct bytes *to, uint16_t layer, uint32_t elements, const double bbox[4]);
@@ -87,6 +88,7 @@ void test_words(const char *cargo, const char *formats);
 void test_scratch(void);
 void test_stored(const char *cases);
 void test_tape(void);
+void test_damage(void);
 void test_floats(void);
 
 #endif

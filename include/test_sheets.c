@@ -31,7 +31,7 @@ static void put_floats(struct bytes *to, const double *values, size_t count)
     }
 }
 
-static void put_head(struct bytes *to, size_t length, uint16_t kind)
+void put_head(struct bytes *to, size_t length, uint16_t kind)
 {
     put(to, length, 4);
     put(to, kind, 2);
