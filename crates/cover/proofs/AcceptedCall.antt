@@ -21,7 +21,7 @@ use Rattle.check_sheet.proofs.Valid.{sound-valid, sound-counts}
 use Rattle.check_sheet.proofs.Numbered.{Numbered, refused, sheet-numbered}
 use Rattle.check_sheet.proofs.WellFormed.Limits.{reference-limits}
 use Rattle.plan_rules.specs.declared.ScenePlan.{ScenePlan}
-use Rattle.plan_rules.specs.declared.Answer.the-variants.{Planned, Refused}
+use Rattle.plan_rules.specs.declared.Answer.the-variants.{Planned, NoRoom}
 use Rattle.plan_rules.specs.Limits.{maxDepth}
 use Rattle.plan_rules.specs.Event.{Event, Step, encode, emptyPlan, after}
 use Rattle.plan_rules.specs.World.{Query, world}
@@ -54,7 +54,7 @@ pub record Passed (S : Sheet) (cells : ℕ) (q : Query) (o k m : List ℕ) : Typ
       ≡ outcome (Planned (length (tapeOf S cells q))) (tapeOf S cells q ++ drop (length (tapeOf S cells q)) o) (zeroed (countsNamed cells (q .depth)) k) (zeroed (marksNamed cells (q .depth)) m)
 
 -- an outcome with number 0 is no refusal
-unrefused : (b : Bool) (x : Outcome) (n : ℕ) (o k m : List ℕ) → (cond b x (outcome (Refused (suc n) 0) o k m)) .number ≡ 0 → cond b x (outcome (Refused (suc n) 0) o k m) ≡ x
+unrefused : (b : Bool) (x : Outcome) (n : ℕ) (o k m : List ℕ) → (cond b x (outcome (NoRoom n) o k m)) .number ≡ 0 → cond b x (outcome (NoRoom n) o k m) ≡ x
 unrefused true x n o k m e = refl
 unrefused false x n o k m e = absurd (let y : ⊥ = omega arith in y)
 
@@ -62,7 +62,7 @@ unrefused false x n o k m e = absurd (let y : ⊥ = omega arith in y)
 fitted : (t : List ℕ) (nk nm : ℕ) (o k m : List ℕ) → (delivered t nk nm o k m) .number ≡ 0
     → delivered t nk nm o k m ≡ outcome (Planned (length t)) (t ++ drop (length t) o) (zeroed nk k) (zeroed nm m)
 unfolding delivered
-fitted t nk nm o k m e = unrefused (leb (length t) (length o)) _ 11 _ _ _ e
+fitted t nk nm o k m e = unrefused (leb (length t) (length o)) _ _ _ _ _ e
 
 sound-passed : (S : Sheet) (cells : ℕ) (q : Query) (o k m : List ℕ) → (soundOutcome S cells q o k m) .number ≡ 0 → Passed S cells q o k m
 sound-passed S cells q o k m e =

@@ -25,15 +25,18 @@ pub(crate) enum Operation {
     Pattern,
 }
 
+// How many passed and failed, and whether all was written so far.
 pub(crate) struct Tally {
     pub(crate) passed: u64,
     pub(crate) failed: u64,
+    pub(crate) going: bool,
 }
 
 pub(crate) fn none() -> Tally {
     Tally {
         passed: 0,
         failed: 0,
+        going: true,
     }
 }
 
@@ -46,12 +49,13 @@ fn up(n: u64, by: u64) -> u64 {
     }
 }
 
-pub(crate) fn sum(a: Tally, b: Tally) -> Tally {
+pub(crate) fn sum(a: Tally, b: Tally, going: bool) -> Tally {
     let passed = up(a.passed, b.passed);
     let failed = up(a.failed, b.failed);
     Tally {
         passed: passed,
         failed: failed,
+        going: going,
     }
 }
 
@@ -61,6 +65,7 @@ pub(crate) fn unread(before: Tally) -> Tally {
     Tally {
         passed: before.passed,
         failed: failed,
+        going: before.going,
     }
 }
 
@@ -160,5 +165,6 @@ pub(crate) fn replay(operation: Operation, s: &[u8]) -> Tally {
     Tally {
         passed: passed,
         failed: failed,
+        going: true,
     }
 }

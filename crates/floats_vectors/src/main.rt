@@ -8,7 +8,7 @@ mod text;
 
 use cases::Operation;
 use cases::Tally;
-use libc::STDOUT_FILENO;
+use streams::Input;
 
 // Replays the file at the path, says what came of it under the name, and answers the tally with that of
 // the groups before. A file that cannot be read whole counts as one failed case.
@@ -19,23 +19,24 @@ fn group(name: &[u8], path: &[u8], operation: Operation, before: Tally) -> Tally
         os::fail(path);
         return cases::unread(before);
     }
-    let n = io::read_full(fd, &mut buffer);
+    let input = streams::read_to_end(fd, &mut buffer);
     libc::close(fd);
-    if n == 65536 {
-        return cases::unread(before);
+    match input {
+        Input::Whole(size) => {
+            let tally = cases::replay(operation, &buffer[..size]);
+            cases::sum(before, tally, print(before.going, name, tally))
+        }
+        _ => cases::unread(before),
     }
-    let tally = cases::replay(operation, &buffer[..n]);
-    print(name, tally);
-    cases::sum(before, tally)
 }
 
-fn print(name: &[u8], tally: Tally) {
-    io::write_all(STDOUT_FILENO, name);
-    io::write_all(STDOUT_FILENO, b": ");
-    io::print_decimal(STDOUT_FILENO, tally.passed);
-    io::write_all(STDOUT_FILENO, b" passed, ");
-    io::print_decimal(STDOUT_FILENO, tally.failed);
-    io::write_all(STDOUT_FILENO, b" failed\n");
+fn print(going: bool, name: &[u8], tally: Tally) -> bool {
+    let going = streams::print(going, name);
+    let going = streams::print(going, b": ");
+    let going = streams::print_number(going, tally.passed);
+    let going = streams::print(going, b" passed, ");
+    let going = streams::print_number(going, tally.failed);
+    streams::print(going, b" failed\n")
 }
 
 fn main() {
@@ -99,5 +100,5 @@ fn main() {
         t,
     );
     let t = group(b"f64 pattern", b"pattern.txt", Operation::Pattern, t);
-    print(b"all", t);
+    print(t.going, b"all", t);
 }

@@ -8,7 +8,9 @@
 //     refused NUMBER OFFSET              the first no
 //     no query                           the first record is no whole query
 //     too long                           the input does not fit the program's buffers
-// A float is printed as the 16 hexadecimal digits of its pattern.
+//     unreadable                         the input could not be read to its end
+// A float is printed as the 16 hexadecimal digits of its pattern. Where a read or a write fails, standard error says why; a failed
+// write ends the output.
 use libc::STDIN_FILENO;
 ghost use Prim.Native.Nat.{_≤_};
 ghost use lib.ListN.{length};
@@ -24,30 +26,35 @@ fn run(
 )
     requires { ⌜ lineRoom ≤ length (now text) ⌝ }
 {
-    let size = io::read_full(STDIN_FILENO, buffer);
-    let printed = plan_answer::answer_read(buffer, size, hidden, tape, counts, marks);
-    plan_answer::print_answer(text, printed, tape);
+    let input = streams::read_to_end(STDIN_FILENO, buffer);
+    let printed = plan_answer::answer_input(buffer, input, hidden, tape, counts, marks);
+    plan_answer::print_answer(true, text, printed, tape);
 }
 
 // Counts and marks are enough for 4,096 cells at depth 32.
-fn lend(buffer: &mut [u8]) {
+fn lend(buffer: &mut [u8], tape: &mut [u8]) {
     let mut hidden = [0u32; 16384];
-    let mut tape = [0u8; 2621440];
     let mut counts = [0u64; 131072];
     let mut marks = [0u8; 139264];
     let mut text = [0u8; 65536];
     run(
         buffer,
         &mut hidden,
-        &mut tape,
+        tape,
         &mut counts,
         &mut marks,
         &mut text,
     );
 }
 
-// An input of 3,145,728 bytes fits: one that fills the buffer is too long.
+// The tape is enough for every plan.
+fn lend_tape(buffer: &mut [u8]) {
+    let mut tape = [0u8; 5360054];
+    lend(buffer, &mut tape);
+}
+
+// An input of 1,310,720 bytes fits: one that fills the buffer is too long. All buffers together leave 390 KiB of a stack of 8 MiB.
 fn main() {
-    let mut buffer = [0u8; 3145729];
-    lend(&mut buffer);
+    let mut buffer = [0u8; 1310721];
+    lend_tape(&mut buffer);
 }

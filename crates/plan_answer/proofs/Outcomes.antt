@@ -13,7 +13,7 @@ use Rattle.check_sheet.specs.declared.Checked.{Checked}
 use Rattle.check_sheet.specs.declared.Checked.the-variants as checked
 use Rattle.check_sheet.specs.Check.{checkSheet}
 use Rattle.check_sheet.proofs.Numbered.{Numbered, refused, sheet-numbered}
-use Rattle.plan_rules.specs.declared.Answer.the-variants.{Refused}
+use Rattle.plan_rules.specs.declared.Answer.the-variants.{Refused, NoRoom}
 use Rattle.plan_rules.specs.declared.ScenePlan.{ScenePlan}
 use Rattle.plan_rules.specs.Event.{Event, fieldsOf, encode, emptyPlan, totals}
 use Rattle.plan_rules.specs.World.{Query, world}
@@ -44,14 +44,17 @@ tape-not-empty S cells q =
 
 pub record Told (c : Outcome) : Type 0 where
   pub planned : c .number ≡ 0 → 0 < c .tapeLength
-  pub within : c .tapeLength ≤ length (c .out)
+  pub within : c .number ≡ 0 → c .tapeLength ≤ length (c .out)
 
 told-if : (b : Bool) {x y : Outcome} → Told x → Told y → Told (cond b x y)
 told-if true p q = p
 told-if false p q = q
 
 told-refused : (number offset : ℕ) (o k m : List ℕ) → 0 < number → Told (outcome (Refused number offset) o k m)
-told-refused number offset o k m h = record { planned = λ e. absurd (omega arith); within = omega arith }
+told-refused number offset o k m h = record { planned = λ e. absurd (omega arith); within = λ e. absurd (omega arith) }
+
+told-no-room : (n : ℕ) (o k m : List ℕ) → Told (outcome (NoRoom n) o k m)
+told-no-room n o k m = record { planned = λ e. absurd (omega arith); within = λ e. absurd (omega arith) }
 
 module _ (S : Sheet) (cells : ℕ) (q : Query) (o k m : List ℕ) where
   abbrev nk : ℕ
@@ -64,8 +67,8 @@ module _ (S : Sheet) (cells : ℕ) (q : Query) (o k m : List ℕ) where
   unfolding delivered
   told-delivered =
       told-if (leb (length (tapeOf S cells q)) (length o))
-      (record { planned = λ e. tape-not-empty S cells q; within = omega (arith, length-append (tapeOf S cells q) (drop (length (tapeOf S cells q)) o)) })
-      (told-refused 12 0 _ _ _ (omega arith))
+      (record { planned = λ e. tape-not-empty S cells q; within = λ e. omega (arith, length-append (tapeOf S cells q) (drop (length (tapeOf S cells q)) o)) })
+      (told-no-room _ _ _ _)
 
   told-sound : Told (soundOutcome S cells q o k m)
   told-sound = by (queryRefusal (q .view) (q .zoom) (q .depth) cells (length k) (length m)) refl

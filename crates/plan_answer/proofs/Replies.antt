@@ -5,19 +5,21 @@ use mathlib.Core.List.{List}
 use Prim.Native.Nat.{ℕ, _≤_, _<_}
 use native.Mathlib.Omega.{arith}
 use lib.ListN.{length, take, drop}
-use borrow.Author.Tests.{le-leb, lt-leb, ne-eqb}
+use borrow.Author.Tests.{ne-eqb}
+use Rattle.streams.specs.declared.input.Input.{Input}
+use Rattle.streams.specs.declared.input.Input.the-variants.{Whole, TooLong, Unreadable}
 use Rattle.plan_query.specs.declared.QueryRecord.{QueryRecord}
 use Rattle.plan_query.specs.declared.FirstRecord.{FirstRecord}
 use Rattle.plan_query.specs.declared.FirstRecord.the-variants as first
 use Rattle.plan_query.specs.Query.{readQuery}
 use Rattle.plan_rules.specs.declared.Answer.{Answer}
-use Rattle.plan_rules.specs.declared.Answer.the-variants.{Planned, Refused}
+use Rattle.plan_rules.specs.declared.Answer.the-variants.{Planned, Refused, NoRoom}
 use Rattle.plan_rules.specs.Limits.{maxSceneObjects}
 use Rattle.plan_rules.specs.World.{queryOf}
 use Rattle.plan_rules.specs.Outcome.{Outcome, outcome, outcomeOf}
 use Rattle.plan_answer.specs.declared.Printed.the-variants as printed
-use Rattle.plan_answer.specs.Text.{outcomeText, lineFrom}
-use Rattle.plan_answer.specs.Reply.{Reply, reply, replyOfOutcome, replyOfQuery, replyOfFirst, replyOf, replyOfRead}
+use Rattle.plan_answer.specs.Text.{outcomeText, outcomeEnd, lineFrom}
+use Rattle.plan_answer.specs.Reply.{Reply, reply, replyOfOutcome, replyOfQuery, replyOfFirst, replyOf, replyOfInput}
 use Rattle.plan_answer.proofs.Outcomes.{Told, told}
 
 -- ---- a plan, or a refusal: `call` is the contract of `planner::plan`, and `is` what the match found
@@ -31,22 +33,36 @@ module _ (s : List ℕ) (q : QueryRecord) (h o k m : List ℕ) (a : Answer) {o' 
     planned-call : outcome (Planned n) o' k' m' ≡ outcomeOf (drop (q .sheet) s) (queryOf (q .options) (take (q .hidden) h) maxSceneObjects) o k m
     planned-call = rw is at call
 
-    not-empty : 0 < n
-    not-empty = omega (arith, ap (λ (c : Outcome). c .tapeLength) planned-call, the-told .planned (sym (ap (λ (c : Outcome). c .number) planned-call)))
-
     pub tape-reply : reply (printed.Tape n) h o' k' m' ≡ replyOfQuery s q h o k m
-    unfolding replyOfQuery outcomeText
-    tape-reply =
-        let e : replyOfOutcome (outcome (Planned n) o' k' m') h ≡ replyOfQuery s q h o k m = ap (λ (c : Outcome). replyOfOutcome c h) planned-call in
-        rw (ne-eqb n 0 (λ z. omega (arith, not-empty))) at e
+    unfolding replyOfQuery outcomeText outcomeEnd
+    tape-reply = ap (λ (c : Outcome). replyOfOutcome c h) planned-call
 
     pub tape-within : n ≤ length o'
     tape-within =
-        omega (arith, ap (λ (c : Outcome). c .tapeLength) planned-call, ap (λ (c : Outcome). length (c .out)) planned-call, the-told .within)
+        omega (
+          arith,
+          ap (λ (c : Outcome). c .tapeLength) planned-call,
+          ap (λ (c : Outcome). length (c .out)) planned-call,
+          the-told .within (sym (ap (λ (c : Outcome). c .number) planned-call)),
+        )
 
-  pub refusal-reply : {n at : ℕ} → a ≡ Refused n at → reply (printed.Refused n at) h o' k' m' ≡ replyOfQuery s q h o k m
-  unfolding replyOfQuery outcomeText lineFrom
-  refusal-reply is = ap (λ (c : Outcome). replyOfOutcome c h) (rw is at call)
+  module _ {n at : ℕ} (is : a ≡ Refused n at) where
+    refused-call : outcome (Refused n at) o' k' m' ≡ outcomeOf (drop (q .sheet) s) (queryOf (q .options) (take (q .hidden) h) maxSceneObjects) o k m
+    refused-call = rw is at call
+
+    -- a call that answers 0 has a tape
+    numbered : n ≡ 0 → ⊥
+    numbered none = omega (arith, ap (λ (c : Outcome). c .tapeLength) refused-call, the-told .planned (sym (ap (λ (c : Outcome). c .number) refused-call) ∙ none))
+
+    pub refusal-reply : reply (printed.Refused n at) h o' k' m' ≡ replyOfQuery s q h o k m
+    unfolding replyOfQuery outcomeText outcomeEnd lineFrom
+    refusal-reply =
+        let e : replyOfOutcome (outcome (Refused n at) o' k' m') h ≡ replyOfQuery s q h o k m = ap (λ (c : Outcome). replyOfOutcome c h) refused-call in
+        rw (ne-eqb n 0 numbered) at e
+
+  pub no-room-reply : {n : ℕ} → a ≡ NoRoom n → reply (printed.Refused 12 0) h o' k' m' ≡ replyOfQuery s q h o k m
+  unfolding replyOfQuery outcomeText outcomeEnd lineFrom
+  no-room-reply is = ap (λ (c : Outcome). replyOfOutcome c h) (rw is at call)
 
 -- ---- by what the input begins with: `read` is the contract of `read_query`
 
@@ -62,13 +78,16 @@ pub too-long-reply : (s h o k m : List ℕ) {h' : List ℕ} → reply printed.To
 unfolding lineFrom
 too-long-reply s h o k m = refl
 
--- ---- an input in a buffer
+-- ---- an input in a buffer: `is` is what the match found
 
-module _ (b : List ℕ) (size : ℕ) (h o k m : List ℕ) where
-  pub too-long-read : length b ≤ size → reply printed.TooLong h o k m ≡ replyOfRead b size h o k m
-  unfolding replyOfRead lineFrom
-  too-long-read full = rw (le-leb _ _ full)
+module _ (b : List ℕ) {input : Input} (h o k m : List ℕ) where
+  pub whole-input : {size : ℕ} {x : Reply} → input ≡ Whole size → x ≡ replyOf (take size b) h o k m → x ≡ replyOfInput b input h o k m
+  whole-input is e = rw is e
 
-  pub input-read : size < length b → replyOf (take size b) h o k m ≡ replyOfRead b size h o k m
-  unfolding replyOfRead
-  input-read room = rw (lt-leb _ _ room)
+  pub too-long-input : input ≡ TooLong → reply printed.TooLong h o k m ≡ replyOfInput b input h o k m
+  unfolding lineFrom
+  too-long-input is = rw is
+
+  pub unreadable-input : input ≡ Unreadable → reply printed.Unreadable h o k m ≡ replyOfInput b input h o k m
+  unfolding lineFrom
+  unreadable-input is = rw is

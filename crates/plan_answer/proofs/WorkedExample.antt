@@ -4,6 +4,7 @@ use mathlib.Core.Path.{_≡_, refl}
 use mathlib.Core.List.{List, [], _∷_, _++_}
 use Prim.Native.Nat.{ℕ}
 use lib.ListN.{replicate, take}
+use Rattle.streams.specs.declared.input.Input.the-variants.{TooLong, Unreadable}
 use Rattle.fields.specs.Field.{uint, f64, recordBytes}
 use Rattle.abstract_sheet.proofs.Examples.{workedText, workedCell, workedSheet}
 use Rattle.plan_text.specs.Ascii.{ascii}
@@ -14,7 +15,7 @@ use Rattle.plan_rules.proofs.Cases.Opened.{opened}
 use Rattle.plan_rules.proofs.Cases.OpenedSheet.{openedSheet}
 use Rattle.plan_rules.specs.Samples.{whole}
 use Rattle.plan_answer.specs.Text.{outcomeText}
-use Rattle.plan_answer.specs.Reply.{Reply, replyOfQuery, replyOf, replyOfRead}
+use Rattle.plan_answer.specs.Reply.{Reply, replyOfQuery, replyOf, replyOfInput}
 
 -- "view 0, 0, 100, 100, zoom 1, depth 1", as a record of kind 20
 abbrev workedQuery : List ℕ
@@ -23,25 +24,28 @@ workedQuery =
     (uint 4 54 ∷ uint 2 20 ∷ uint 4 0 ∷ uint 4 1 ∷ f64 (whole 0) ∷ f64 (whole 0) ∷ f64 (whole 100) ∷ f64 (whole 100) ∷ f64 (whole 1) ∷ [])
 
 -- lent: no hidden layer, a tape of 80 bytes, a count and three marks
-abbrev replyOfInput : List ℕ → Reply
-replyOfInput s = replyOf s [] (replicate 80 7) (8 ∷ []) (9 ∷ 9 ∷ 9 ∷ [])
+abbrev replied : List ℕ → Reply
+replied s = replyOf s [] (replicate 80 7) (8 ∷ []) (9 ∷ 9 ∷ 9 ∷ [])
 
 -- "All it prints"
-pub worked-example : (replyOfInput (workedQuery ++ workedSheet)) .text ≡ ascii "text 0 4024000000000000 4034000000000000\ntotals 1 1 0 0 0 0\n"
+pub worked-example : (replied (workedQuery ++ workedSheet)) .text ≡ ascii "text 0 4024000000000000 4034000000000000\ntotals 1 1 0 0 0 0\n"
 unfolding openedQuery openedText openedSheet opened encode workedText workedCell workedSheet outcomeText replyOfQuery replyOf
 worked-example = refl
 
 -- "A refusal prints `refused`, number, offset": a byte behind the sheet
-pub refusal : (replyOfInput (workedQuery ++ workedSheet ++ (0 ∷ []))) .text ≡ ascii "refused 2 86\n"
+pub refusal : (replied (workedQuery ++ workedSheet ++ (0 ∷ []))) .text ≡ ascii "refused 2 86\n"
 unfolding openedQuery openedText openedSheet opened encode workedText workedCell workedSheet outcomeText replyOfQuery replyOf
 refusal = refl
 
 -- "A first record that is no whole query prints `no query`"
-pub no-query : (replyOfInput (take 53 workedQuery)) .text ≡ ascii "no query\n"
+pub no-query : (replied (take 53 workedQuery)) .text ≡ ascii "no query\n"
 unfolding openedQuery openedText replyOf
 no-query = refl
 
--- "Input beyond the program's buffers .. prints `too long` before all else": 86 bytes were read into a buffer of 86
-pub too-long : (replyOfRead workedSheet 86 [] [] [] []) .text ≡ ascii "too long\n"
-unfolding openedQuery openedText workedText workedCell workedSheet replyOfRead
-too-long = refl
+-- "Input beyond the program's buffers .. prints `too long` before all else"
+pub too-long : (b : List ℕ) → (replyOfInput b TooLong [] [] [] []) .text ≡ ascii "too long\n"
+too-long b = refl
+
+-- a plan is never printed of an input that could not be read to its end
+pub unreadable : (b h o k m : List ℕ) → (replyOfInput b Unreadable h o k m) .text ≡ ascii "unreadable\n"
+unreadable b h o k m = refl

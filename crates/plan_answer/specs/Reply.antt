@@ -1,12 +1,12 @@
 -- What an input is answered, and what stands in every lent place after it: the contracts equate a call to these definitions.
 -- Definitions only; rests on plan_query's reading of the query and the rules' outcome of a call.
 use mathlib.Core.Path.{_≡_}
-use mathlib.Core.Bool.{cond}
 use mathlib.Core.List.{List}
 use Prim.Native.Nat.{ℕ}
-use lib.ListN.{length, take, drop}
-use lib.Dec.{leb}
+use lib.ListN.{take, drop}
 use denote.Ref.{RefT}
+use Rattle.streams.specs.declared.input.Input.{Input}
+use Rattle.streams.specs.declared.input.Input.the-variants.{Whole, TooLong, Unreadable}
 use Rattle.plan_query.specs.declared.QueryRecord.{QueryRecord}
 use Rattle.plan_query.specs.declared.FirstRecord.{FirstRecord}
 use Rattle.plan_query.specs.declared.FirstRecord.the-variants as first
@@ -14,7 +14,7 @@ use Rattle.plan_query.specs.Query.{readQuery}
 use Rattle.plan_rules.specs.OnTape.{asked}
 use Rattle.plan_rules.specs.Outcome.{Outcome, outcomeOf}
 use Rattle.plan_answer.specs.declared.Printed.{Printed}
-use Rattle.plan_answer.specs.Text.{outcomeText, tapeEnd, noQueryLine, tooLongLine, textFrom}
+use Rattle.plan_answer.specs.Text.{outcomeText, outcomeEnd, tapeEnd, noQueryLine, tooLongLine, unreadableLine, textFrom}
 
 -- The whole text, the end of the tape (0 without one), and the lent hidden layers, tape, counts and marks.
 -- The end is said for itself: bytes behind the last record add no line, so the text alone does not tell it.
@@ -37,7 +37,7 @@ Replies definition r hidden tape counts marks hidden₀ tape₀ counts₀ marks�
     reply r (hidden .now) (tape .now) (counts .now) (marks .now) ≡ definition (hidden₀ .now) (tape₀ .now) (counts₀ .now) (marks₀ .now)
 
 abbrev pub replyOfOutcome : Outcome → List ℕ → Reply
-replyOfOutcome c h = record { text = outcomeText c; end = c .tapeLength; hidden = h; tape = c .out; counts = c .counts; marks = c .marks }
+replyOfOutcome c h = record { text = outcomeText c; end = outcomeEnd c; hidden = h; tape = c .out; counts = c .counts; marks = c .marks }
 
 -- "reads one query .. and then the sheet"
 unfoldable pub replyOfQuery : List ℕ → QueryRecord → List ℕ → List ℕ → List ℕ → List ℕ → Reply
@@ -56,6 +56,9 @@ replyOfFirst s (first.TooLong, h) o k m = replyLine tooLongLine h o k m
 unfoldable pub replyOf : List ℕ → List ℕ → List ℕ → List ℕ → List ℕ → Reply
 replyOf s h o k m = replyOfFirst s (readQuery s h) o k m
 
--- an input that was read into a buffer: "Input beyond the program's buffers .. prints `too long` before all else"
-unfoldable pub replyOfRead : List ℕ → ℕ → List ℕ → List ℕ → List ℕ → List ℕ → Reply
-replyOfRead b size h o k m = cond (leb (length b) size) (replyLine tooLongLine h o k m) (replyOf (take size b) h o k m)
+-- By how far an input could be read into a buffer: what is answered from is what was read to its end, and nothing else.
+-- "Input beyond the program's buffers .. prints `too long` before all else"
+abbrev pub replyOfInput : List ℕ → Input → List ℕ → List ℕ → List ℕ → List ℕ → Reply
+replyOfInput b (Whole size) h o k m = replyOf (take size b) h o k m
+replyOfInput b TooLong h o k m = replyLine tooLongLine h o k m
+replyOfInput b Unreadable h o k m = replyLine unreadableLine h o k m

@@ -3,10 +3,12 @@ use crate::Printed;
 use plan_query::FirstRecord;
 use plan_query::QueryRecord;
 use plan_rules::Answer;
+use streams::Input;
 ghost use Prim.Native.Nat.{_≤_};
 ghost use lib.ListN.{length};
+ghost use Rattle.streams.specs.Moving.{Within};
 ghost use Rattle.plan_answer.specs.Text.{tapeEnd};
-ghost use Rattle.plan_answer.specs.Reply.{Replies, replyOfQuery, replyOf, replyOfRead};
+ghost use Rattle.plan_answer.specs.Reply.{Replies, replyOfQuery, replyOf, replyOfInput};
 
 // Plans the sheet behind the query.
 fn plan_query(
@@ -35,6 +37,7 @@ fn plan_query(
     ) {
         Answer::Planned(length) => Printed::Tape(length),
         Answer::Refused(number, offset) => Printed::Refused(number, offset),
+        Answer::NoRoom(_) => Printed::Refused(12, 0),
     }
 }
 
@@ -57,20 +60,22 @@ pub fn answer(
     }
 }
 
-// The answer to the first `size` bytes of a buffer. An input that fills the buffer may not be whole.
-pub fn answer_read(
+// The answer to an input that was read into a buffer, as far as it could be read.
+pub fn answer_input(
     buffer: &[u8],
-    size: usize,
+    input: Input,
     hidden: &mut [u32],
     tape: &mut [u8],
     counts: &mut [u64],
     marks: &mut [u8],
 ) -> Printed
-    ensures { λ r. ⌜ Replies (replyOfRead (now (buffer .entry)) size) r (hidden .exit) (tape .exit) (counts .exit) (marks .exit) (hidden .entry) (tape .entry) (counts .entry) (marks .entry) ⌝ }
+    requires { ⌜ Within input (now buffer) ⌝ }
+    ensures { λ r. ⌜ Replies (replyOfInput (now (buffer .entry)) input) r (hidden .exit) (tape .exit) (counts .exit) (marks .exit) (hidden .entry) (tape .entry) (counts .entry) (marks .entry) ⌝ }
     ensures { λ r. ⌜ tapeEnd r ≤ length (now (tape .exit)) ⌝ }
 {
-    if buffer.len() <= size {
-        return Printed::TooLong;
+    match input {
+        Input::Whole(size) => answer(&buffer[..size], hidden, tape, counts, marks),
+        Input::TooLong => Printed::TooLong,
+        Input::Unreadable => Printed::Unreadable,
     }
-    answer(&buffer[..size], hidden, tape, counts, marks)
 }

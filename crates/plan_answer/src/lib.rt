@@ -4,7 +4,7 @@ mod part; // the text of an answer, a part at a time
 mod print; // the text of an answer, printed
 
 pub use input::answer;
-pub use input::answer_read;
+pub use input::answer_input;
 pub use part::put_part;
 pub use part::text_end;
 pub use print::print_answer;
@@ -15,4 +15,5 @@ pub enum Printed {
     Refused(u32, usize),
     NoQuery,
     TooLong,
+    Unreadable,
 }

@@ -17,6 +17,7 @@ pub fn text_end(printed: Printed) -> usize
         Printed::Refused(_, _) => 1,
         Printed::NoQuery => 1,
         Printed::TooLong => 1,
+        Printed::Unreadable => 1,
     }
 }
 
@@ -43,5 +44,6 @@ pub fn put_part(text: &mut [u8], printed: Printed, tape: &[u8], from: usize) -> 
         )),
         Printed::NoQuery => one_line(plan_text::put_word(text, 0, b"no query\n")),
         Printed::TooLong => one_line(plan_text::put_word(text, 0, b"too long\n")),
+        Printed::Unreadable => one_line(plan_text::put_word(text, 0, b"unreadable\n")),
     }
 }

@@ -2,14 +2,14 @@
 use crate::Printed;
 use crate::part::put_part;
 use crate::part::text_end;
-use libc::STDOUT_FILENO;
 ghost use Prim.Native.Nat.{_≤_};
 ghost use lib.ListN.{length};
 ghost use Rattle.plan_text.specs.Written.{lineRoom};
 ghost use Rattle.plan_answer.specs.Text.{tapeEnd};
 
-// Prints an answer, a buffer at a time.
-pub fn print_answer(text: &mut [u8], printed: Printed, tape: &[u8])
+// Prints an answer, a buffer at a time, where all before it was written, and answers whether all is written so far.
+// The first write that fails ends the output.
+pub fn print_answer(going: bool, text: &mut [u8], printed: Printed, tape: &[u8]) -> bool
     requires { ⌜ tapeEnd printed ≤ length (now tape) ⌝ }
     requires { ⌜ lineRoom ≤ length (now text) ⌝ }
 {
@@ -18,7 +18,10 @@ pub fn print_answer(text: &mut [u8], printed: Printed, tape: &[u8])
     while at < end {
         let part = put_part(text, printed, tape, at);
         let size = part.end;
-        io::write_all(STDOUT_FILENO, &text[..size]);
+        if !streams::print(going, &text[..size]) {
+            return false;
+        }
         at = part.next;
     }
+    true
 }

@@ -14,7 +14,7 @@ use Rattle.plan_rules.specs.declared.SceneOptions.{SceneOptions}
 use Rattle.plan_query.specs.declared.QueryRecord.{QueryRecord}
 use Rattle.plan_query.specs.declared.FirstRecord.{FirstRecord}
 use Rattle.plan_query.specs.declared.FirstRecord.the-variants.{Query, NoQuery, TooLong}
-use Rattle.plan_query.specs.Query.{queryLength, queryKind, wholeQuery, optionsAt, hiddenCount, layersFrom, hiddenLayers, queryRecord, readQuery}
+use Rattle.plan_query.specs.Query.{queryLength, queryKind, wholeQuery, optionsAt, hiddenCount, layersFrom, hiddenLayers, queryRecord, readQuery, sheetAt}
 
 false-is-not-true : false ≡ true → ⊥
 false-is-not-true e = let z : _≡_ {A = ℕ} 0 1 = cc in omega arith
@@ -86,6 +86,10 @@ module _ (s h : List ℕ) {b : Bool} (whole : b ≡ wholeQuery s) where
 
 -- ---- for those who go on with the query
 
+whole-past : (s : List ℕ) → wholeQuery s ≡ true → lengthAt s 0 ≤ length s
+unfolding wholeQuery
+whole-past s whole = leb-true _ _ (third-true (leb queryLength (length s)) (leb queryLength (lengthAt s 0)) (leb (lengthAt s 0) (length s)) (eqb ((lengthAt s 0 - queryLength) % 4) 0) (eqb (kindAt s 0) queryKind) whole)
+
 not-too-long : {q : QueryRecord} → _≡_ {A = FirstRecord} (Query q) TooLong → ⊥
 not-too-long e = let z : _≡_ {A = ℕ} 0 1 = cc in omega arith
 
@@ -101,7 +105,7 @@ module _ (s h : List ℕ) {q : QueryRecord} {h' : List ℕ} where
       let first : _≡_ {A = FirstRecord} (Query q) (Query (queryRecord s)) = ap (λ (r : FirstRecord × List ℕ). r .0) e in
       let same : q ≡ queryRecord s = cc in
       let left : h' ≡ sets h 0 (hiddenLayers s) = ap (λ (r : FirstRecord × List ℕ). r .1) e in
-      let past : lengthAt s 0 ≤ length s = leb-true _ _ (third-true (leb queryLength (length s)) (leb queryLength (lengthAt s 0)) (leb (lengthAt s 0) (length s)) (eqb ((lengthAt s 0 - queryLength) % 4) 0) (eqb (kindAt s 0) queryKind) whole) in
+      let past = whole-past s whole in
       let fewer : hiddenCount s ≤ length h = leb-true _ _ few in (
         omega (arith, past, ap (λ (r : QueryRecord). r .sheet) same),
         omega (arith, fewer, ap (λ (r : QueryRecord). r .hidden) same, ap length left, length-sets h 0 (hiddenLayers s)),
@@ -113,3 +117,14 @@ module _ (s h : List ℕ) {q : QueryRecord} {h' : List ℕ} where
   pub query-within : _≡_ {A = FirstRecord × List ℕ} (Query q, h') (readQuery s h) → (q .sheet ≤ length s) × (q .hidden ≤ length h')
   unfolding readQuery
   query-within e = within-by (wholeQuery s) (leb (hiddenCount s) (length h)) refl refl e
+
+-- ---- where the sheet begins, with or without a query
+
+module _ (s : List ℕ) {b : Bool} (whole : b ≡ wholeQuery s) where
+  pub sheet-alone : not b ≡ true → (0 ≡ sheetAt s) × (0 ≤ length s)
+  unfolding sheetAt
+  sheet-alone t = (rw (← whole, not-true b t), omega arith)
+
+  pub sheet-behind : not b ≡ false → {n : ℕ} → n ≡ lengthAt s 0 → (n ≡ sheetAt s) × (n ≤ length s)
+  unfolding sheetAt
+  sheet-behind t {n} read = (rw (← whole, not-false b t, read), omega (arith, read, whole-past s (sym whole ∙ not-false b t)))

@@ -66,3 +66,7 @@ readQuery s hidden =
     (Query (queryRecord s), sets hidden 0 (hiddenLayers s))
     (TooLong, hidden))
     (NoQuery, hidden)
+
+-- Where the sheet of an input with or without a query begins.
+unfoldable pub sheetAt : List ℕ → ℕ
+sheetAt s = cond (wholeQuery s) (lengthAt s 0) 0

@@ -5,7 +5,7 @@ ghost use mathlib.Core.Path.{_≡_};
 ghost use Prim.Native.Nat.{_+_, _*_, _≤_, _<_};
 ghost use lib.ListN.{length};
 ghost use lib.Seq.{sets};
-ghost use Rattle.plan_query.specs.Query.{queryLength, wholeQuery, optionsAt, layersFrom, readQuery};
+ghost use Rattle.plan_query.specs.Query.{queryLength, wholeQuery, optionsAt, layersFrom, readQuery, sheetAt};
 
 const QUERY_LENGTH: usize = 54;
 
@@ -92,4 +92,15 @@ pub fn read_query(input: &[u8], hidden: &mut [u32]) -> FirstRecord
         hidden: count,
         sheet: length,
     })
+}
+
+// Where the sheet begins: behind the query, or at the start of an input without one.
+pub fn sheet_at(input: &[u8]) -> usize
+    ensures { λ r. ⌜ r ≡ sheetAt (now (input .entry)) ⌝ }
+    ensures { λ r. ⌜ r ≤ length (now (input .entry)) ⌝ }
+{
+    if !is_query(input) {
+        return 0;
+    }
+    fields::u32_at(input, 0) as usize
 }

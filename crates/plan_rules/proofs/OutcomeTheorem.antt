@@ -14,14 +14,14 @@ use Rattle.check_sheet.specs.declared.Counts.{Counts}
 use Rattle.check_sheet.specs.declared.Checked.{Checked}
 use Rattle.check_sheet.specs.declared.Checked.the-variants as checked
 use Rattle.check_sheet.specs.Check.{checkSheet}
-use Rattle.plan_rules.specs.declared.Answer.the-variants.{Planned, Refused}
+use Rattle.plan_rules.specs.declared.Answer.the-variants.{Planned, Refused, NoRoom}
 use Rattle.plan_rules.specs.Limits.{maxTotal}
 use Rattle.plan_rules.specs.World.{Query, World}
 use Rattle.plan_rules.specs.Scratch.{countsNamed, marksNamed}
 use Rattle.plan_rules.specs.Tape.{noTag, onTape}
 use Rattle.plan_rules.specs.Questions.{queryRefusal}
 use Rattle.plan_rules.specs.Outcome.{Outcome, outcome, freshPlan, tapeOf, zeroed, delivered, soundOutcome, checkedOutcome, outcomeOf}
-use Rattle.plan_rules.proofs.TapeTheorem.{same-output-length, fits-by-end, exceeds-by-end, the-tape}
+use Rattle.plan_rules.proofs.TapeTheorem.{same-output-length, tape-end, fits-by-end, exceeds-by-end, the-tape}
 
 -- ---- questions 1 to 7
 
@@ -58,25 +58,26 @@ module _ (S : Sheet) (cells : ℕ) (q : Query) (o k m : List ℕ) where
       let t = the-tape noTag S cells q tt o (replicate nk 0) (replicate nm 0) small fits in
       rw (le-leb _ _ fits, t .0, t .1)
 
-  delivered-refused : length o < written .state .«tape_end» → delivered (tapeOf S cells q) nk nm o k m ≡ outcome (Refused 12 0) (replicate (length o) 0) (zeroed nk k) (zeroed nm m)
+  delivered-no-room : length o < written .state .«tape_end» → delivered (tapeOf S cells q) nk nm o k m ≡ outcome (NoRoom (written .state .«tape_end»)) (replicate (length o) 0) (zeroed nk k) (zeroed nm m)
   unfolding delivered tapeOf freshPlan
-  delivered-refused h = rw (lt-leb _ _ (exceeds-by-end noTag S cells q tt o (replicate nk 0) (replicate nm 0) h))
+  delivered-no-room h =
+      rw (lt-leb _ _ (exceeds-by-end noTag S cells q tt o (replicate nk 0) (replicate nm 0) h), ← tape-end noTag S cells q tt o (replicate nk 0) (replicate nm 0))
 
   -- THE TAPE OF A CALL: what a run that writes leaves, read as an outcome
   unfoldable pub writtenOutcome : Outcome
   writtenOutcome =
       cond (leb (written .state .«tape_end») (length o))
       (outcome (Planned (written .state .«tape_end»)) (written .out) (zeroed nk k) (zeroed nm m))
-      (outcome (Refused 12 0) (replicate (length o) 0) (zeroed nk k) (zeroed nm m))
+      (outcome (NoRoom (written .state .«tape_end»)) (replicate (length o) 0) (zeroed nk k) (zeroed nm m))
 
   pub delivered-is-written : length o < maxTotal → delivered (tapeOf S cells q) nk nm o k m ≡ writtenOutcome
   unfolding writtenOutcome
   delivered-is-written small = by (leb (written .state .«tape_end») (length o)) refl
     where
       by : (t : Bool) → leb (written .state .«tape_end») (length o) ≡ t
-          → delivered (tapeOf S cells q) nk nm o k m ≡ cond t (outcome (Planned (written .state .«tape_end»)) (written .out) (zeroed nk k) (zeroed nm m)) (outcome (Refused 12 0) (replicate (length o) 0) (zeroed nk k) (zeroed nm m))
+          → delivered (tapeOf S cells q) nk nm o k m ≡ cond t (outcome (Planned (written .state .«tape_end»)) (written .out) (zeroed nk k) (zeroed nm m)) (outcome (NoRoom (written .state .«tape_end»)) (replicate (length o) 0) (zeroed nk k) (zeroed nm m))
       by true e = delivered-planned small (leb-true _ _ e)
-      by false e = delivered-refused (leb-false _ _ e)
+      by false e = delivered-no-room (leb-false _ _ e)
 
   -- ---- questions 8 to 11
 

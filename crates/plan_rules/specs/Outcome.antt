@@ -11,27 +11,30 @@ use Rattle.check_sheet.specs.declared.Checked.{Checked}
 use Rattle.check_sheet.specs.declared.Checked.the-variants as checked
 use Rattle.check_sheet.specs.Check.{checkSheet}
 use Rattle.plan_rules.specs.declared.Answer.{Answer}
-use Rattle.plan_rules.specs.declared.Answer.the-variants.{Planned, Refused}
-use Rattle.plan_rules.specs.Event.{Event, emptyPlan, Step}
+use Rattle.plan_rules.specs.declared.Answer.the-variants.{Planned, Refused, NoRoom}
+use Rattle.plan_rules.specs.Event.{Event, emptyPlan, saturate, Step}
 use Rattle.plan_rules.specs.World.{Query, World, world}
 use Rattle.plan_rules.specs.Scratch.{countsNamed, marksNamed}
 use Rattle.plan_rules.specs.Plan.{plan}
 use Rattle.plan_rules.specs.Tape.{noTag, note, tape}
 use Rattle.plan_rules.specs.Questions.{queryRefusal}
 
--- ---- an answer in document 01's numbers: the refusal's number (0 for a plan), its offset, and the tape's length
+-- ---- an answer in document 01's numbers: the refusal's number (0 for a plan), its offset, and the tape's length, known at number 12 too
 
 abbrev pub numberOf : Answer → ℕ
 numberOf (Planned length) = 0
 numberOf (Refused number offset) = number
+numberOf (NoRoom length) = 12
 
 abbrev pub offsetOf : Answer → ℕ
 offsetOf (Planned length) = 0
 offsetOf (Refused number offset) = offset
+offsetOf (NoRoom length) = 0
 
 abbrev pub lengthOf : Answer → ℕ
 lengthOf (Planned length) = length
 lengthOf (Refused number offset) = 0
+lengthOf (NoRoom length) = length
 
 -- "Each entry point's contract determines number, offset, tape and every lent place after the call"
 pub record Outcome : Type 0 where
@@ -64,12 +67,12 @@ unfoldable pub zeroed : ℕ → List ℕ → List ℕ
 zeroed n l = replicate n 0 ++ drop n l
 
 -- Question 12, "Does the whole tape fit the lent output?" "Number 12 zeroes the whole output. It and an accepted plan leave the named scratch places zero
--- and the rest as lent; a plan leaves output past the tape as lent."
+-- and the rest as lent; a plan leaves output past the tape as lent." The tape's length is told either way; the code counts it up to 2^64 − 1.
 unfoldable pub delivered : List ℕ → ℕ → ℕ → List ℕ → List ℕ → List ℕ → Outcome
 delivered t countsUsed marksUsed o k m =
     cond (leb (length t) (length o))
     (outcome (Planned (length t)) (t ++ drop (length t) o) (zeroed countsUsed k) (zeroed marksUsed m))
-    (outcome (Refused 12 0) (replicate (length o) 0) (zeroed countsUsed k) (zeroed marksUsed m))
+    (outcome (NoRoom (saturate (length t))) (replicate (length o) 0) (zeroed countsUsed k) (zeroed marksUsed m))
 
 -- Questions 8 to 11, then 12, for a sheet of so many cells: the first no, or the plan. "Numbers 1 to 11 touch no memory."
 unfoldable pub soundOutcome : Sheet → ℕ → Query → List ℕ → List ℕ → List ℕ → Outcome

@@ -46,8 +46,9 @@ pub enum Reason {
     DenseBatch, // 9
 }
 
-// What a call answers: the tape's length in bytes, or a refusal's number and offset.
+// What a call answers: the tape's length in bytes, a refusal's number and offset, or, for number 12, the length that the tape has.
 pub enum Answer {
     Planned(usize),
     Refused(u32, usize),
+    NoRoom(usize),
 }

@@ -5,12 +5,13 @@
 // The lent memory is not cleared between inputs: no answer depends on what it held.
 // A case: length of the input, length of the text (4 bytes each), the input, the text.
 use libc::STDIN_FILENO;
-use libc::STDOUT_FILENO;
 use plan_answer::Printed;
+use streams::Input;
 ghost use mathlib.Core.Path.{_≡_};
 ghost use mathlib.Core.Bool.{true};
 ghost use Prim.Native.Nat.{_+_, _≤_, _<_, min};
 ghost use lib.ListN.{length};
+ghost use Rattle.streams.specs.Moving.{Within as ReadWithin};
 ghost use Rattle.plan_text.specs.Written.{lineRoom};
 ghost use Rattle.plan_answer.specs.Text.{tapeEnd};
 ghost use Rattle.plan_vectors.specs.Case.{Within};
@@ -22,9 +23,11 @@ struct Case {
     end: usize,
 }
 
+// How many passed and failed, and whether all was written so far.
 struct Tally {
     passed: u64,
     failed: u64,
+    going: bool,
 }
 
 // The length of the query that stands before too many cells, and the end of these cells: 4,097 of 56 bytes each.
@@ -122,6 +125,7 @@ fn is_expected(expected: &[u8], text: &mut [u8], printed: Printed, tape: &[u8]) 
 
 // Prints the answer to an input as `plan` does, behind a word on the input.
 fn print_input(
+    going: bool,
     word: &[u8],
     input: &[u8],
     hidden: &mut [u32],
@@ -129,28 +133,32 @@ fn print_input(
     counts: &mut [u64],
     marks: &mut [u8],
     text: &mut [u8],
-)
+) -> bool
     requires { ⌜ lineRoom ≤ length (now text) ⌝ }
 {
-    io::write_all(STDOUT_FILENO, word);
+    let going = streams::print(going, word);
     let printed = plan_answer::answer(input, hidden, tape, counts, marks);
-    plan_answer::print_answer(text, printed, tape);
+    plan_answer::print_answer(going, text, printed, tape)
 }
 
-// An input that fills its buffer.
-fn print_filled(
+// The same of an input that was not read to its end.
+fn print_unread(
+    going: bool,
+    word: &[u8],
     buffer: &[u8],
+    input: Input,
     hidden: &mut [u32],
     tape: &mut [u8],
     counts: &mut [u64],
     marks: &mut [u8],
     text: &mut [u8],
-)
+) -> bool
+    requires { ⌜ ReadWithin input (now buffer) ⌝ }
     requires { ⌜ lineRoom ≤ length (now text) ⌝ }
 {
-    io::write_all(STDOUT_FILENO, b"no room for the input: ");
-    let printed = plan_answer::answer_read(buffer, buffer.len(), hidden, tape, counts, marks);
-    plan_answer::print_answer(text, printed, tape);
+    let going = streams::print(going, word);
+    let printed = plan_answer::answer_input(buffer, input, hidden, tape, counts, marks);
+    plan_answer::print_answer(going, text, printed, tape)
 }
 
 // Puts a query and 4,097 empty cells, one more than a sheet may have, into a buffer of zeros. Gives their end.
@@ -173,36 +181,40 @@ fn print_many_cells(
     counts: &mut [u64],
     marks: &mut [u8],
     text: &mut [u8],
-)
+) -> bool
     requires { ⌜ lineRoom ≤ length (now text) ⌝ }
 {
     let end = put_many_cells(room);
-    if end <= room.len() {
-        print_input(
-            b"4,097 cells: ",
-            &room[..end],
-            hidden,
-            tape,
-            counts,
-            marks,
-            text,
-        );
+    if room.len() < end {
+        return true;
     }
+    print_input(
+        true,
+        b"4,097 cells: ",
+        &room[..end],
+        hidden,
+        tape,
+        counts,
+        marks,
+        text,
+    )
 }
 
-// The same cells behind a query with a hidden layer, without room for it and without room for the input.
+// The same cells behind a query with a hidden layer, without room for it.
 fn print_hidden_layer(
+    going: bool,
     room: &mut [u8],
     hidden: &mut [u32],
     tape: &mut [u8],
     counts: &mut [u64],
     marks: &mut [u8],
     text: &mut [u8],
-)
+) -> bool
     requires { ⌜ lineRoom ≤ length (now text) ⌝ }
 {
     fields::put_u32(room, 0, 58);
     print_input(
+        going,
         b"no room for hidden layers: ",
         room,
         &mut hidden[..0],
@@ -210,8 +222,7 @@ fn print_hidden_layer(
         counts,
         marks,
         text,
-    );
-    print_filled(room, hidden, tape, counts, marks, text);
+    )
 }
 
 // Inputs that are refused, or too long, for their size.
@@ -222,80 +233,120 @@ fn print_long(
     counts: &mut [u64],
     marks: &mut [u8],
     text: &mut [u8],
-)
+) -> bool
     requires { ⌜ lineRoom ≤ length (now text) ⌝ }
 {
-    print_many_cells(room, hidden, tape, counts, marks, text);
-    print_hidden_layer(room, hidden, tape, counts, marks, text);
+    let going = print_many_cells(room, hidden, tape, counts, marks, text);
+    print_hidden_layer(going, room, hidden, tape, counts, marks, text)
+}
+
+// Inputs that were not read to their end, which the bytes in the buffer do not matter for.
+fn print_unreads(
+    going: bool,
+    buffer: &[u8],
+    hidden: &mut [u32],
+    tape: &mut [u8],
+    counts: &mut [u64],
+    marks: &mut [u8],
+    text: &mut [u8],
+) -> bool
+    requires { ⌜ lineRoom ≤ length (now text) ⌝ }
+{
+    let going = print_unread(
+        going,
+        b"no room for the input: ",
+        buffer,
+        Input::TooLong,
+        hidden,
+        tape,
+        counts,
+        marks,
+        text,
+    );
+    print_unread(
+        going,
+        b"a read that failed: ",
+        buffer,
+        Input::Unreadable,
+        hidden,
+        tape,
+        counts,
+        marks,
+        text,
+    )
 }
 
 // ---- the replay
 
-fn say(t: Tally) {
-    io::print_decimal(STDOUT_FILENO, t.passed);
-    io::write_all(STDOUT_FILENO, b" passed, ");
-    io::print_decimal(STDOUT_FILENO, t.failed);
-    io::write_all(STDOUT_FILENO, b" failed\n");
+fn say(t: Tally) -> bool {
+    let going = streams::print_number(t.going, t.passed);
+    let going = streams::print(going, b" passed, ");
+    let going = streams::print_number(going, t.failed);
+    streams::print(going, b" failed\n")
 }
 
-fn say_word(word: u64) {
+fn say_word(going: bool, word: u64) -> bool {
     match word {
-        0 => {
-            io::write_all(STDOUT_FILENO, b"batch: ");
-        }
-        1 => {
-            io::write_all(STDOUT_FILENO, b"text: ");
-        }
-        2 => {
-            io::write_all(STDOUT_FILENO, b"point: ");
-        }
-        3 => {
-            io::write_all(STDOUT_FILENO, b"proxy: ");
-        }
-        4 => {
-            io::write_all(STDOUT_FILENO, b"totals: ");
-        }
-        5 => {
-            io::write_all(STDOUT_FILENO, b"refused: ");
-        }
-        6 => {
-            io::write_all(STDOUT_FILENO, b"no query: ");
-        }
-        _ => {
-            io::write_all(STDOUT_FILENO, b"other: ");
-        }
+        0 => streams::print(going, b"batch: "),
+        1 => streams::print(going, b"text: "),
+        2 => streams::print(going, b"point: "),
+        3 => streams::print(going, b"proxy: "),
+        4 => streams::print(going, b"totals: "),
+        5 => streams::print(going, b"refused: "),
+        6 => streams::print(going, b"no query: "),
+        _ => streams::print(going, b"other: "),
     }
 }
 
-fn say_wrong(number: u64) {
-    io::write_all(STDOUT_FILENO, b"wrong: ");
-    io::print_decimal(STDOUT_FILENO, number);
-    io::write_all(STDOUT_FILENO, b"\n");
+// Says what came of the cases of a word, and adds them up.
+fn say_group(word: u64, t: Tally, sum: Tally) -> Tally {
+    let going = say_word(t.going, word);
+    let passed = t.passed;
+    let failed = t.failed;
+    Tally {
+        passed: std::num::wrapping_add_u64(sum.passed, passed),
+        failed: std::num::wrapping_add_u64(sum.failed, failed),
+        going: say(Tally {
+            passed,
+            failed,
+            going,
+        }),
+    }
 }
 
-fn counted(t: Tally, passed: bool) -> Tally {
+fn say_wrong(going: bool, number: u64) -> bool {
+    let going = streams::print(going, b"wrong: ");
+    let going = streams::print_number(going, number);
+    streams::print(going, b"\n")
+}
+
+fn counted(t: Tally, number: u64, passed: bool) -> Tally {
     if passed {
         return Tally {
             passed: std::num::wrapping_add_u64(t.passed, 1),
             failed: t.failed,
+            going: t.going,
         };
     }
     Tally {
         passed: t.passed,
         failed: std::num::wrapping_add_u64(t.failed, 1),
+        going: say_wrong(t.going, number),
     }
 }
 
 // Prints the answer where none was counted before.
-fn print_if_first(t: Tally, text: &mut [u8], printed: Printed, tape: &[u8])
+fn print_if_first(t: Tally, text: &mut [u8], printed: Printed, tape: &[u8]) -> bool
     requires { ⌜ tapeEnd printed ≤ length (now tape) ⌝ }
     requires { ⌜ lineRoom ≤ length (now text) ⌝ }
 {
-    if t.passed == 0 {
-        if t.failed == 0 {
-            plan_answer::print_answer(text, printed, tape);
-        }
+    if t.passed != 0 {
+        return t.going;
     }
+    if t.failed != 0 {
+        return t.going;
+    }
+    plan_answer::print_answer(t.going, text, printed, tape)
 }
 
 // Runs a case where its text begins with the word, and prints the answer to the first of them.
@@ -318,17 +369,23 @@ fn compare_one(
     }
     let printed = plan_answer::answer(input, hidden, tape, counts, marks);
     let passed = is_expected(expected, text, printed, tape);
-    if !passed {
-        say_wrong(number);
-    }
-    print_if_first(t, text, printed, tape);
-    counted(t, passed)
+    let going = print_if_first(t, text, printed, tape);
+    counted(
+        Tally {
+            passed: t.passed,
+            failed: t.failed,
+            going,
+        },
+        number,
+        passed,
+    )
 }
 
 // Runs the cases whose texts begin with the word.
 fn compare(
     cases: &[u8],
     word: u64,
+    going: bool,
     hidden: &mut [u32],
     tape: &mut [u8],
     counts: &mut [u64],
@@ -340,6 +397,7 @@ fn compare(
     let mut t = Tally {
         passed: 0,
         failed: 0,
+        going,
     };
     let mut at = 0;
     let mut number = 0u64;
@@ -368,6 +426,7 @@ fn compare(
 
 // Runs every case, and prints the sums.
 fn compare_all(
+    going: bool,
     cases: &[u8],
     hidden: &mut [u32],
     tape: &mut [u8],
@@ -377,38 +436,41 @@ fn compare_all(
 )
     requires { ⌜ lineRoom ≤ length (now text) ⌝ }
 {
-    let mut passed = 0u64;
-    let mut failed = 0u64;
+    let mut sum = Tally {
+        passed: 0,
+        failed: 0,
+        going,
+    };
     let mut word = 0u64;
     while word < WORDS {
-        let t = compare(cases, word, hidden, tape, counts, marks, text);
-        say_word(word);
-        say(t);
-        passed = std::num::wrapping_add_u64(passed, t.passed);
-        failed = std::num::wrapping_add_u64(failed, t.failed);
+        let t = compare(cases, word, sum.going, hidden, tape, counts, marks, text);
+        sum = say_group(word, t, sum);
         word += 1;
     }
-    say(Tally { passed, failed });
+    say(sum);
 }
 
-// The first case, a plan, answered where no tape is lent.
+// Inputs that were not read to their end; and the first case, a plan, answered where no tape is lent.
 fn print_first(
+    going: bool,
     cases: &[u8],
     hidden: &mut [u32],
     tape: &mut [u8],
     counts: &mut [u64],
     marks: &mut [u8],
     text: &mut [u8],
-)
+) -> bool
     requires { ⌜ lineRoom ≤ length (now text) ⌝ }
 {
+    let going = print_unreads(going, cases, hidden, tape, counts, marks, text);
     if cases.len() == 0 {
-        return;
+        return going;
     }
     let c = case_at(cases, 0);
     let input = c.input;
     let expected = c.expected;
     print_input(
+        going,
         b"no room for the tape: ",
         &cases[input..expected],
         hidden,
@@ -416,11 +478,12 @@ fn print_first(
         counts,
         marks,
         text,
-    );
+    )
 }
 
 // What the cases are for, once they are read.
 fn replay(
+    going: bool,
     cases: &[u8],
     hidden: &mut [u32],
     tape: &mut [u8],
@@ -430,8 +493,25 @@ fn replay(
 )
     requires { ⌜ lineRoom ≤ length (now text) ⌝ }
 {
-    print_first(cases, hidden, tape, counts, marks, text);
-    compare_all(cases, hidden, tape, counts, marks, text);
+    let going = print_first(going, cases, hidden, tape, counts, marks, text);
+    compare_all(going, cases, hidden, tape, counts, marks, text);
+}
+
+// The room behind so many bytes of cases serves for long inputs, then the cases are replayed.
+fn run_cases(
+    buffer: &mut [u8],
+    size: usize,
+    hidden: &mut [u32],
+    tape: &mut [u8],
+    counts: &mut [u64],
+    marks: &mut [u8],
+    text: &mut [u8],
+)
+    requires { ⌜ size ≤ length (now buffer) ⌝ }
+    requires { ⌜ lineRoom ≤ length (now text) ⌝ }
+{
+    let going = print_long(&mut buffer[size..], hidden, tape, counts, marks, text);
+    replay(going, &buffer[..size], hidden, tape, counts, marks, text);
 }
 
 // Reads the cases, which must leave room in their buffer.
@@ -445,13 +525,15 @@ fn run(
 )
     requires { ⌜ lineRoom ≤ length (now text) ⌝ }
 {
-    let n = io::read_full(STDIN_FILENO, cases);
-    if cases.len() <= n {
-        io::write_all(STDOUT_FILENO, b"the cases are too long\n");
-        return;
+    match streams::read_to_end(STDIN_FILENO, cases) {
+        Input::Whole(size) => run_cases(cases, size, hidden, tape, counts, marks, text),
+        Input::TooLong => {
+            streams::print(true, b"too long\n");
+        }
+        Input::Unreadable => {
+            streams::print(true, b"unreadable\n");
+        }
     }
-    print_long(&mut cases[n..], hidden, tape, counts, marks, text);
-    replay(&cases[..n], hidden, tape, counts, marks, text);
 }
 
 fn lend(cases: &mut [u8]) {

@@ -8,7 +8,7 @@ use lib.ListN.{length, replicate, take, drop}
 use lib.Seq.{length-take-le}
 use lib.Dec.{leb}
 use Rattle.plan_rules.specs.declared.Answer.{Answer}
-use Rattle.plan_rules.specs.declared.Answer.the-variants.{Planned, Refused}
+use Rattle.plan_rules.specs.declared.Answer.the-variants.{Planned, NoRoom}
 use Rattle.plan_rules.specs.declared.ScenePlan.{ScenePlan}
 use Rattle.plan_rules.specs.declared.Fixed.{Fixed}
 use Rattle.plan_rules.specs.Limits.{maxTotal}
@@ -42,7 +42,7 @@ module _ {f : Fixed} (g : Given f) (o k m : List ℕ) where
   answered-is-written =
       ap (λ (n : ℕ). cond (leb (ended .state .«tape_end») n)
       (outcome (Planned (ended .state .«tape_end»)) (ended .out) (zeroed nk k) (zeroed nm m))
-      (outcome (Refused 12 0) (replicate n 0) (zeroed nk k) (zeroed nm m))) (written-length (g .sheet) cells (query g) o k m)
+      (outcome (NoRoom (ended .state .«tape_end»)) (replicate n 0) (zeroed nk k) (zeroed nm m))) (written-length (g .sheet) cells (query g) o k m)
 
   -- `visited`: what the visits left of the plan and the output. `finished`: the contract of `finish`.
   pub call-delivered : (length o < maxTotal) → (s : ScenePlan) (b k₁ m₁ : List ℕ)

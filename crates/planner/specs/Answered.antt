@@ -5,7 +5,7 @@ use mathlib.Core.List.{List}
 use Prim.Native.Nat.{ℕ}
 use lib.ListN.{length, replicate}
 use lib.Dec.{leb}
-use Rattle.plan_rules.specs.declared.Answer.the-variants.{Planned, Refused}
+use Rattle.plan_rules.specs.declared.Answer.the-variants.{Planned, NoRoom}
 use Rattle.plan_rules.specs.World.{World}
 use Rattle.plan_rules.specs.Outcome.{Outcome, outcome}
 
@@ -14,4 +14,4 @@ unfoldable pub answered : World (List ℕ) → Outcome
 answered w =
     cond (leb (w .state .«tape_end») (length (w .out)))
     (outcome (Planned (w .state .«tape_end»)) (w .out) (w .counts) (w .marks))
-    (outcome (Refused 12 0) (replicate (length (w .out)) 0) (w .counts) (w .marks))
+    (outcome (NoRoom (w .state .«tape_end»)) (replicate (length (w .out)) 0) (w .counts) (w .marks))

@@ -19,5 +19,5 @@ pub fn finish(out: &mut [u8], plan: ScenePlan) -> Answer
         return Answer::Planned(whole.tape_end as usize);
     }
     scratch::clear_bytes(out); // "Number 12 zeroes the whole output."
-    Answer::Refused(12, 0)
+    Answer::NoRoom(whole.tape_end as usize)
 }

@@ -7,7 +7,7 @@ ghost use mathlib.Core.Path.{_≡_};
 ghost use Rattle.plan_rules.specs.OnTape.{planOutcome};
 ghost use Rattle.planner_c.specs.Call.{returned, optionsFrom};
 
-// The number of the first no, with its offset, or 0 with the tape's length.
+// The number of the first no, with its offset, or 0; the tape's length with 0 and with 12.
 #[no_mangle]
 pub extern "C" fn scene_plan(
     sheet: &[u8],
@@ -50,6 +50,11 @@ pub extern "C" fn scene_plan(
             *offset = at;
             *length = 0;
             number
+        }
+        Answer::NoRoom(tape) => {
+            *offset = 0;
+            *length = tape;
+            12
         }
     }
 }

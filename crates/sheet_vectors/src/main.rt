@@ -6,7 +6,7 @@ ghost use Prim.Native.Nat.{_<_};
 ghost use lib.ListN.{length};
 use check_sheet::Checked;
 use libc::STDIN_FILENO;
-use libc::STDOUT_FILENO;
+use streams::Input;
 
 struct Case {
     number: u32,
@@ -17,9 +17,11 @@ struct Case {
     suffix: u32,
 }
 
+// How many passed and failed, and whether all was written so far.
 struct Tally {
     passed: u64,
     failed: u64,
+    going: bool,
 }
 
 fn case_at(cases: &[u8], at: usize) -> Case
@@ -96,16 +98,16 @@ fn passes(cases: &[u8], at: usize, c: Case, sheet: &mut [u8]) -> bool
     answers(sheet, end, c.number, c.offset)
 }
 
-fn say_wrong(cases: &[u8], at: usize)
+fn say_wrong(going: bool, cases: &[u8], at: usize) -> bool
     requires { ⌜ at < length (now cases) ⌝ }
 {
     let from = at + 24;
     let to = at + 72;
-    io::write_all(STDOUT_FILENO, b"wrong: ");
+    let mut going = streams::print(going, b"wrong: ");
     if to <= cases.len() {
-        io::write_all(STDOUT_FILENO, &cases[from..to]);
+        going = streams::print(going, &cases[from..to]);
     }
-    io::write_all(STDOUT_FILENO, b"\n");
+    streams::print(going, b"\n")
 }
 
 // Runs the case at an offset where it has the expected number.
@@ -119,22 +121,24 @@ fn compare_one(cases: &[u8], at: usize, c: Case, sheet: &mut [u8], number: u32, 
         Tally {
             passed: std::num::wrapping_add_u64(t.passed, 1),
             failed: t.failed,
+            going: t.going,
         }
     } else {
-        say_wrong(cases, at);
         Tally {
             passed: t.passed,
             failed: std::num::wrapping_add_u64(t.failed, 1),
+            going: say_wrong(t.going, cases, at),
         }
     }
 }
 
 // Runs the cases with one expected number.
-fn compare(cases: &[u8], sheet: &mut [u8], number: u32) -> Tally {
+fn compare(cases: &[u8], sheet: &mut [u8], number: u32, going: bool) -> Tally {
     let mut at = 0;
     let mut t = Tally {
         passed: 0,
         failed: 0,
+        going,
     };
     while at < cases.len() {
         let c = case_at(cases, at);
@@ -144,46 +148,63 @@ fn compare(cases: &[u8], sheet: &mut [u8], number: u32) -> Tally {
     t
 }
 
-fn say(t: Tally) {
-    io::print_decimal(STDOUT_FILENO, t.passed);
-    io::write_all(STDOUT_FILENO, b" passed, ");
-    io::print_decimal(STDOUT_FILENO, t.failed);
-    io::write_all(STDOUT_FILENO, b" failed\n");
+fn say(t: Tally) -> bool {
+    let going = streams::print_number(t.going, t.passed);
+    let going = streams::print(going, b" passed, ");
+    let going = streams::print_number(going, t.failed);
+    streams::print(going, b" failed\n")
 }
 
-fn say_group(number: u32, t: Tally) {
+fn say_number(going: bool, number: u32) -> bool {
     if number == 0 {
-        io::write_all(STDOUT_FILENO, b"sound: ");
-    } else {
-        io::write_all(STDOUT_FILENO, b"refusal ");
-        io::print_decimal(STDOUT_FILENO, number as u64);
-        io::write_all(STDOUT_FILENO, b": ");
+        return streams::print(going, b"sound: ");
     }
-    say(t);
+    let going = streams::print(going, b"refusal ");
+    let going = streams::print_number(going, number as u64);
+    streams::print(going, b": ")
+}
+
+// Says what came of the cases with one expected number, and adds them up.
+fn say_group(number: u32, t: Tally, sum: Tally) -> Tally {
+    let going = say_number(t.going, number);
+    let passed = t.passed;
+    let failed = t.failed;
+    Tally {
+        passed: std::num::wrapping_add_u64(sum.passed, passed),
+        failed: std::num::wrapping_add_u64(sum.failed, failed),
+        going: say(Tally {
+            passed,
+            failed,
+            going,
+        }),
+    }
 }
 
 // Runs every case, and prints the sums.
 fn compare_all(cases: &[u8], sheet: &mut [u8]) {
-    let mut passed = 0u64;
-    let mut failed = 0u64;
+    let mut sum = Tally {
+        passed: 0,
+        failed: 0,
+        going: true,
+    };
     let mut number = 0u32;
     while number < 8 {
-        let t = compare(cases, sheet, number);
-        say_group(number, t);
-        passed = std::num::wrapping_add_u64(passed, t.passed);
-        failed = std::num::wrapping_add_u64(failed, t.failed);
+        let t = compare(cases, sheet, number, sum.going);
+        sum = say_group(number, t, sum);
         number += 1;
     }
-    say(Tally { passed, failed });
+    say(sum);
 }
 
-// Reads the cases, which must leave room in their buffer.
 fn run(cases: &mut [u8], sheet: &mut [u8]) {
-    let n = io::read_full(STDIN_FILENO, cases);
-    if n < cases.len() {
-        compare_all(&cases[..n], sheet);
-    } else {
-        io::write_all(STDOUT_FILENO, b"the cases are too long\n");
+    match streams::read_to_end(STDIN_FILENO, cases) {
+        Input::Whole(size) => compare_all(&cases[..size], sheet),
+        Input::TooLong => {
+            streams::print(true, b"too long\n");
+        }
+        Input::Unreadable => {
+            streams::print(true, b"unreadable\n");
+        }
     }
 }
 

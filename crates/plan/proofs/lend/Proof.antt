@@ -11,23 +11,23 @@ use Rattle.plan.proofs.lend.Tie as tie
 hidden : tie.Need-slice-aggregate-run
 hidden c = sym (length-replicate {0} {A = ℕ} 16384 0)
 
-tape : tie.Need-slice-aggregate-run-2
-tape c = sym (length-replicate {0} {A = ℕ} 2621440 0)
-
-counts : tie.Need-slice-aggregate-run-3
+counts : tie.Need-slice-aggregate-run-2
 counts c = sym (length-replicate {0} {A = ℕ} 131072 0)
 
-marks : tie.Need-slice-aggregate-run-4
+marks : tie.Need-slice-aggregate-run-3
 marks c = sym (length-replicate {0} {A = ℕ} 139264 0)
 
-text : tie.Need-slice-aggregate-run-5
+text : tie.Need-slice-aggregate-run-4
 text c = sym (length-replicate {0} {A = ℕ} 65536 0)
 
 room : tie.Need-run-requires
 room c κs = zeros-enough 65536 (lit≤ tt)
 
 kept : tie.Need-same-length
-kept c = c .before .before .before .before .before .before .before .run .kept .0
+kept c = c .before .before .before .before .before .before .before .before .run .kept .0
+
+kept-tape : tie.Need-same-length-2
+kept-tape c = c .before .before .before .before .before .before .before .before .run .kept .1 .1 .0
 
 pub lend-spec : {M : Type 1} → statement M
-lend-spec = tie.close (tie.spec hidden tape counts marks text room kept (λ c. tt))
+lend-spec = tie.close (tie.spec hidden counts marks text room kept kept-tape (λ c. tt))

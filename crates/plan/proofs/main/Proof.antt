@@ -6,11 +6,11 @@ use lib.ListN.{length-replicate}
 use Rattle.plan.proofs.main.Statement.{statement}
 use Rattle.plan.proofs.main.Tie as tie
 
-buffer : tie.Need-slice-aggregate-lend
-buffer c = sym (length-replicate {0} {A = ℕ} 3145729 0)
+buffer : tie.Need-slice-aggregate-lend-tape
+buffer c = sym (length-replicate {0} {A = ℕ} 1310721 0)
 
-lend-requires : tie.Need-lend-requires
-lend-requires c κs = tt
+lend-tape-requires : tie.Need-lend-tape-requires
+lend-tape-requires c κs = tt
 
 pub main-spec : {M : Type 1} → statement M
-main-spec = tie.close (tie.spec buffer lend-requires (λ c. tt))
+main-spec = tie.close (tie.spec buffer lend-tape-requires (λ c. tt))

@@ -8,7 +8,7 @@ use lib.Ieee.{neg}
 use Rattle.geometry.specs.Bbox.{bbox}
 use Rattle.abstract_sheet.specs.Sheet.{sheetOf}
 use Rattle.abstract_sheet.proofs.Examples.{workedText, workedCell, workedSheet}
-use Rattle.plan_rules.specs.declared.Answer.the-variants.{Planned, Refused}
+use Rattle.plan_rules.specs.declared.Answer.the-variants.{Planned, Refused, NoRoom}
 use Rattle.plan_rules.specs.Limits.{maxSceneObjects}
 use Rattle.plan_rules.specs.World.{Query, World}
 use Rattle.plan_rules.specs.Tape.{noTag, onTape}
@@ -46,7 +46,7 @@ empty-sheet = refl
 -- ---- refusals
 
 -- "Number 12 zeroes the whole output. It and an accepted plan leave the named scratch places zero and the rest as lent"
-pub no-room : call workedSheet workedQuery 79 ≡ outcome (Refused 12 0) (replicate 79 0) (0 ∷ 8 ∷ 8 ∷ 8 ∷ []) (0 ∷ 0 ∷ 0 ∷ 9 ∷ 9 ∷ [])
+pub no-room : call workedSheet workedQuery 79 ≡ outcome (NoRoom 80) (replicate 79 0) (0 ∷ 8 ∷ 8 ∷ 8 ∷ []) (0 ∷ 0 ∷ 0 ∷ 9 ∷ 9 ∷ [])
 unfolding workedText workedCell workedSheet opened openedSheet
 no-room = refl
 

@@ -9,11 +9,11 @@ use Rattle.plan_vectors.proofs.compare.Statement.{statement}
 use Rattle.plan_vectors.proofs.compare.Tie as tie
 
 abbrev Inv-loop : tie.InvT-loop
-Inv-loop cases word hidden₀ tape₀ counts₀ marks₀ text₀ t₀ at₀ number₀ hidden tape counts marks text t at number =
+Inv-loop cases word going hidden₀ tape₀ counts₀ marks₀ text₀ t₀ at₀ number₀ hidden tape counts marks text t at number =
     (length hidden ≡ length hidden₀) × (length tape ≡ length tape₀) × (length counts ≡ length counts₀) × (length marks ≡ length marks₀) × (length text ≡ length text₀)
 
 abbrev μ-loop : tie.MeasureT-loop
-μ-loop cases word hidden₀ tape₀ counts₀ marks₀ text₀ t₀ at₀ number₀ hidden tape counts marks text t at number = length cases - at
+μ-loop cases word going hidden₀ tape₀ counts₀ marks₀ text₀ t₀ at₀ number₀ hidden tape counts marks text t at number = length cases - at
 
 loop-again : tie.Need-loop-again Inv-loop μ-loop
 loop-again c =

@@ -1,17 +1,17 @@
--- `plan_vectors::run` is safe: the part lent has the length of its end. Assumes nothing.
-use mathlib.Core.Path.{sym}
+-- `plan_vectors::run` is safe: what was read to its end lies within the buffer.
+-- Assumes nothing.
 use native.Mathlib.Omega.{arith}
-use lib.Seq.{length-take-le}
 use borrow.Author.Needs.{needs}
+use Rattle.streams.proofs.Meanings.{whole-within}
 use Rattle.plan_vectors.proofs.run.Statement.{statement}
 use Rattle.plan_vectors.proofs.run.Tie as tie
 
-part-length : tie.Need-slice-aggregate-replay
-part-length c = sym (length-take-le _ _ (omega arith))
+cases-requires : tie.Need-run-cases-requires
+cases-requires c κs = (whole-within _ (c .before .before .before .before .before .before .before .before .before .before .before .read-to-end .ensures) (c .before .before .before .before .before .before .before .size .given .1), omega arith)
 
 pub run-spec : {M : Type 1} → statement M
 run-spec =
     tie.close
-    (tie.spec (λ c κs. search needs) (λ c. search needs) (λ c κs. search needs) (λ c. search needs) (λ c. search needs) (λ c. search needs)
-    (λ c. search needs) (λ c. search needs) (λ c κs. search needs) (λ c. search needs) part-length (λ c κs. search needs) (λ c. search needs)
+    (tie.spec (λ c κs. search needs) (λ c. search needs) cases-requires (λ c. search needs) (λ c. search needs) (λ c κs. search needs) (λ c. search needs)
+    (λ c. search needs) (λ c κs. search needs) (λ c. search needs) (λ c. search needs) (λ c. search needs) (λ c. search needs) (λ c. search needs)
     (λ c. search needs) (λ c. search needs) (λ c. search needs) (λ c. search needs) (λ c. search needs) (λ c. search needs))

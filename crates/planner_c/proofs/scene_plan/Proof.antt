@@ -19,18 +19,13 @@ returns c = told (c .before .tape .given .1) (c .before .before .before .before 
 returns-2 : tie.Need-returns-2
 returns-2 c = told (c .before .number .given .1) (c .before .before .before .before .before .before .before .before .before .plan .ensures)
 
+returns-3 : tie.Need-returns-3
+returns-3 c = told (c .before .tape2 .given .1) (c .before .before .before .before .before .before .before .before .before .plan .ensures)
+
 pub scene-plan-spec : {M : Type 1} → statement M
 scene-plan-spec =
     tie.close
-    (tie.spec
-    (λ c κs. search needs)
-    (λ c. search needs)
-    (λ c. search needs)
-    (λ c. search needs)
-    (λ c. search needs)
-    (λ c. search needs)
-    returns
-    (λ c. search needs)
-    (λ c. search needs)
-    (λ c. search needs)
-    returns-2)
+    (tie.spec (λ c κs. search needs) (λ c. search needs) (λ c. search needs) (λ c. search needs)
+    (λ c. search needs) (λ c. search needs) (λ c. search needs) returns
+    (λ c. search needs) (λ c. search needs) (λ c. search needs) returns-2
+    (λ c. search needs) (λ c. search needs) (λ c. search needs) returns-3)

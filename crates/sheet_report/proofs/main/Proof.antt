@@ -7,7 +7,7 @@ use Rattle.sheet_report.proofs.main.Statement.{statement}
 use Rattle.sheet_report.proofs.main.Tie as tie
 
 slice-aggregate-run : tie.Need-slice-aggregate-run
-slice-aggregate-run c = sym (length-replicate {0} {A = ℕ} 4194304 0)
+slice-aggregate-run c = sym (length-replicate {0} {A = ℕ} 7340033 0)
 
 run-requires : tie.Need-run-requires
 run-requires c κs = tt

@@ -9,10 +9,10 @@ use Rattle.sheet_vectors.proofs.compare.Statement.{statement}
 use Rattle.sheet_vectors.proofs.compare.Tie as tie
 
 abbrev Inv-loop : tie.InvT-loop
-Inv-loop cases sheet₀ number at₀ t₀ sheet at t = length sheet ≡ length sheet₀
+Inv-loop cases sheet₀ number going at₀ t₀ sheet at t = length sheet ≡ length sheet₀
 
 abbrev μ-loop : tie.MeasureT-loop
-μ-loop cases sheet₀ number at₀ t₀ sheet at t = length cases - at
+μ-loop cases sheet₀ number going at₀ t₀ sheet at t = length cases - at
 
 loop-holds : tie.Need-loop-holds Inv-loop μ-loop
 loop-holds c = refl

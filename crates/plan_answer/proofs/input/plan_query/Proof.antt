@@ -6,7 +6,7 @@ use lib.Seq.{length-take-le}
 use denote.Ref.{now}
 use borrow.Author.Needs.{needs}
 use Rattle.plan_text.proofs.TapeLines.{from-here}
-use Rattle.plan_answer.proofs.Replies.{tape-reply, tape-within, refusal-reply}
+use Rattle.plan_answer.proofs.Replies.{tape-reply, tape-within, refusal-reply, no-room-reply}
 use Rattle.plan_answer.proofs.input.plan_query.Statement.{statement}
 use Rattle.plan_answer.proofs.input.plan_query.Tie as tie
 
@@ -30,9 +30,15 @@ refused c =
     let call = rw (from-here (now (a .input)) (a .query .sheet)) at (at-plan .plan .ensures) in
     (refusal-reply (now (a .input)) (a .query) (now (a .hidden)) (now (a .tape)) (now (a .counts)) (now (a .marks)) _ call (c .before .number .given .1), omega arith)
 
+no-room : tie.Need-returns-3
+no-room c =
+    let at-plan = c .before .before .before .before .before .before .before .before in
+    let a = at-plan .before .before .before .before .before .before .before .before .before .before .before .before .args in
+    let call = rw (from-here (now (a .input)) (a .query .sheet)) at (at-plan .plan .ensures) in
+    (no-room-reply (now (a .input)) (a .query) (now (a .hidden)) (now (a .tape)) (now (a .counts)) (now (a .marks)) _ call (c .enum-told .given .1), omega arith)
+
 pub plan-query-spec : {M : Type 1} → statement M
 plan-query-spec =
     tie.close
-    (tie.spec (λ c. search needs) (λ c. search needs) (λ c. search needs) slice-aggregate-plan (λ c κs. search needs)
-    (λ c. search needs) (λ c. search needs) (λ c. search needs) (λ c. search needs) (λ c. search needs) planned
-    (λ c. search needs) (λ c. search needs) (λ c. search needs) refused)
+    (tie.spec (λ c. search needs) (λ c. search needs) (λ c. search needs) slice-aggregate-plan (λ c κs. search needs) (λ c. search needs) (λ c. search needs) (λ c. search needs)
+    (λ c. search needs) (λ c. search needs) (λ c. search needs) planned (λ c. search needs) (λ c. search needs) (λ c. search needs) refused (λ c. search needs) (λ c. search needs) (λ c. search needs) no-room)

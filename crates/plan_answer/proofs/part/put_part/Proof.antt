@@ -5,8 +5,8 @@ use native.Mathlib.Omega.{arith}
 use lib.Seq.{length-take-le}
 use borrow.Author.Needs.{needs}
 use Rattle.plan_text.specs.Text.{refusedLine}
-use Rattle.plan_answer.specs.declared.Printed.the-variants.{Refused, NoQuery, TooLong}
-use Rattle.plan_answer.specs.Text.{tapeEnd, textEnd, noQueryLine, tooLongLine}
+use Rattle.plan_answer.specs.declared.Printed.the-variants.{Refused, NoQuery, TooLong, Unreadable}
+use Rattle.plan_answer.specs.Text.{tapeEnd, textEnd, noQueryLine, tooLongLine, unreadableLine}
 use Rattle.plan_answer.proofs.Parts.{lines-part, line-part}
 use Rattle.plan_answer.proofs.part.put_part.Statement.{statement}
 use Rattle.plan_answer.proofs.part.put_part.Tie as tie
@@ -38,10 +38,16 @@ too-long c =
     let is = c .before .before .before .before .before .before .enum-told2 .given .1 in
     rw is (line-part TooLong _ tooLongLine (λ at. refl) (put .ensures) (omega arith) (c .one-line3 .ensures) (omega (arith, ap textEnd is)))
 
+unreadable : tie.Need-returns-5
+unreadable c =
+    let put = c .before .before .before .put-word3 in
+    let is = c .before .before .before .before .before .before .enum-told3 .given .1 in
+    rw is (line-part Unreadable _ unreadableLine (λ at. refl) (put .ensures) (omega arith) (c .one-line4 .ensures) (omega (arith, ap textEnd is)))
+
 pub put-part-spec : {M : Type 1} → statement M
 put-part-spec =
     tie.close
     (tie.spec (λ c. search needs) slice-aggregate-put-lines (λ c κs. search needs) (λ c. search needs)
-    (λ c κs. search needs) (λ c κs. search needs) (λ c. search needs) (λ c. search needs) (λ c κs. search needs)
-    (λ c κs. search needs) (λ c. search needs) (λ c. search needs) (λ c κs. search needs) (λ c κs. search needs)
-    (λ c. search needs) lines (λ c. search needs) refused (λ c. search needs) no-query (λ c. search needs) too-long)
+    (λ c κs. search needs) (λ c κs. search needs) (λ c. search needs) (λ c. search needs) (λ c κs. search needs) (λ c κs. search needs) (λ c. search needs)
+    (λ c. search needs) (λ c κs. search needs) (λ c κs. search needs) (λ c. search needs) (λ c. search needs) (λ c κs. search needs) (λ c κs. search needs)
+    (λ c. search needs) lines (λ c. search needs) refused (λ c. search needs) no-query (λ c. search needs) too-long (λ c. search needs) unreadable)

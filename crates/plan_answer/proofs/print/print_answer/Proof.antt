@@ -10,25 +10,25 @@ use Rattle.plan_answer.proofs.print.print_answer.Statement.{statement}
 use Rattle.plan_answer.proofs.print.print_answer.Tie as tie
 
 abbrev Inv-loop : tie.InvT-loop
-Inv-loop text₀ printed tape end at₀ text at = length text ≡ length text₀
+Inv-loop going text₀ printed tape end at₀ text at = length text ≡ length text₀
 
 abbrev μ-loop : tie.MeasureT-loop
-μ-loop text₀ printed tape end at₀ text at = end - at
+μ-loop going text₀ printed tape end at₀ text at = end - at
 
 part-requires : tie.Need-put-part-requires Inv-loop μ-loop
 part-requires c κs = (omega arith, (omega arith, omega arith))
 
-prefix : tie.Need-slice-reshare-prefix-write-all Inv-loop μ-loop
+prefix : tie.Need-slice-reshare-prefix-print Inv-loop μ-loop
 prefix c = c .before .before .put-part .ensures .within
 
-prefix-length : tie.Need-slice-aggregate-write-all Inv-loop μ-loop
+prefix-length : tie.Need-slice-aggregate-print Inv-loop μ-loop
 prefix-length c = part-length (c .before .before .before .put-part .ensures)
 
 goes-further : tie.Need-loop-less Inv-loop μ-loop
-goes-further c = omega (arith, c .before .before .before .before .put-part .ensures .goes)
+goes-further c = omega (arith, c .before .before .before .before .before .put-part .ensures .goes)
 
 pub print-answer-spec : {M : Type 1} → statement M
 print-answer-spec =
     tie.close
     (tie.spec Inv-loop μ-loop (λ c κs. search needs) (λ c. refl) part-requires prefix prefix-length (λ c κs. search needs)
-    goes-further (λ c. search needs) (λ c. search needs) (λ c. tt))
+    (λ c. search needs) (λ c. tt) goes-further (λ c. search needs) (λ c. search needs) (λ c. tt))

@@ -1,0 +1,17 @@
+-- `streams::output::print` meets its contract: what follows a failed write is not written.
+-- Assumes nothing.
+use mathlib.Core.Path.{_≡_, refl}
+use mathlib.Core.Bool.{Bool, true, false, not, true≢false, false≢true}
+use borrow.Author.Needs.{needs}
+use Rattle.streams.proofs.output.print.Statement.{statement}
+use Rattle.streams.proofs.output.print.Tie as tie
+
+not-false : (b : Bool) → not b ≡ false → b ≡ true
+not-false true e = refl
+not-false false e = absurd (true≢false e)
+
+written : tie.Need-returns-2
+written c all = not-false _ (c .before .before .if1 .left)
+
+pub print-spec : {M : Type 1} → statement M
+print-spec = tie.close (tie.spec (λ c all. absurd (false≢true all)) (λ c κs. search needs) written (λ c. search needs) (λ c κs. search needs) (λ c all. absurd (false≢true all)))

@@ -1,0 +1,3 @@
+-- What the contracts of `streams` cite.
+-- Definitions only. Assumes nothing.
+pub mod Moving
