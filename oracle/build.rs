@@ -8,6 +8,8 @@
 #[allow(dead_code)]
 #[path = "src/edits/mod.rs"]
 mod edits;
+#[path = "src/sha256.rs"]
+mod sha256;
 
 use std::fmt::Write as _;
 use std::path::{Path, PathBuf};
@@ -106,7 +108,7 @@ pub static COPIES: Option<Copies> = Some(Copies {
 });
 ";
 
-/// One asserted run of lines.
+/// One asserted run of lines, each with its line feed.
 fn take(source: &Path, piece: &Piece) -> String {
     let text = fs::read_to_string(source.join(piece.file))
         .unwrap_or_else(|error| panic!("{}: {error}", piece.file));
@@ -118,7 +120,16 @@ fn take(source: &Path, piece: &Piece) -> String {
         piece.name,
         piece.file
     );
-    format!("{}{}\n{}", piece.before, lines[first - 1..last].join("\n"), piece.after)
+    let taken = lines[first - 1..last].join("\n") + "\n";
+    let hash = sha256::sha256(taken.as_bytes());
+    assert!(
+        hash == piece.sha256,
+        "{}: a line of lines {first} to {last} of {} is not the one that the judge was made for: SHA-256 {hash}, not {}",
+        piece.name,
+        piece.file,
+        piece.sha256
+    );
+    format!("{}{taken}{}", piece.before, piece.after)
 }
 
 /// A text with all the mistakes that are planted in it; their numbers begin at 1.

@@ -151,11 +151,13 @@ fn edit_rows(title: &str, edits: &[Edit]) -> String {
 pub fn edits_page() -> String {
     let mut text = String::from(
         "# What is taken from the Rust source, and every edit of it\n\nMade by `oracle edits`; `oracle/quick` checks that it \
-         is up to date. build.rs asserts the first and last line of each piece, and that each edit meets exactly its \
-         count of places.\n\n## Pieces\n\n| piece | file | lines |\n|---|---|---|\n",
+         is up to date. build.rs asserts the SHA-256 of each piece, and that each edit meets exactly its count of places. \
+         `sed -n '6,81p' FILE | sha256sum` prints a piece's hash.\n\n## Pieces\n\n| piece | file | lines | SHA-256 |\n\
+         |---|---|---|---|\n",
     );
     for piece in PIECES {
-        text += &format!("| {} | {} | {} to {} |\n", piece.name, piece.file, piece.lines.0, piece.lines.1);
+        let (first, last) = piece.lines;
+        text += &format!("| {} | {} | {first} to {last} | `{}` |\n", piece.name, piece.file, piece.sha256);
     }
     text += &edit_rows("Substitutions in both copies", SUBSTITUTIONS);
     text += &edit_rows("Alterations by change requests, in both copies", ALTERATIONS);

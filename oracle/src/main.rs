@@ -22,6 +22,7 @@ mod planted;
 #[cfg(feature = "library")]
 mod race;
 mod readings;
+mod sha256;
 mod sheet;
 mod stored;
 mod timing;
@@ -168,6 +169,7 @@ fn quick(folder: &Path) -> ! {
     let page = std::fs::read_to_string(folder.join("../EDITS.md")).unwrap_or_default();
     let current = usize::from(page == commands::edits_page());
     add("EDITS.md is up to date", (current, 1 - current));
+    add("SHA-256, published vectors", sha256::check());
     add("document 01's readings", readings::run());
     add("stored answers", commands::replay(folder));
     let mut coverage = coverage::Coverage::default();

@@ -8,7 +8,8 @@ pub mod bodies;
 pub mod instrument;
 pub mod planted;
 
-/// A run of whole lines of one seed file, read by build.rs. The first and the last line are asserted.
+/// A run of whole lines of one seed file, read by build.rs. The first and the last line are asserted, to say which piece
+/// has moved, and the SHA-256 of all of them, each with its line feed: `sed -n 'FIRST,LASTp' FILE | sha256sum` prints it.
 #[allow(dead_code)]
 pub struct Piece {
     pub name: &'static str,
@@ -16,6 +17,7 @@ pub struct Piece {
     pub lines: (usize, usize),
     pub first: &'static str,
     pub last: &'static str,
+    pub sha256: &'static str,
     /// Text of ours around the piece (the head or the end of an `impl` that is cut).
     pub before: &'static str,
     pub after: &'static str,
@@ -39,8 +41,9 @@ const fn whole(
     lines: (usize, usize),
     first: &'static str,
     last: &'static str,
+    sha256: &'static str,
 ) -> Piece {
-    Piece { name, file, lines, first, last, before: "", after: "" }
+    Piece { name, file, lines, first, last, sha256, before: "", after: "" }
 }
 
 pub const PIECES: &[Piece] = &[
@@ -50,16 +53,25 @@ pub const PIECES: &[Piece] = &[
         lines: (6, 81),
         first: "#[derive(Clone, Debug, PartialEq)]",
         last: "    }",
+        sha256: "486a60091d2c736f97f5a9b7edc854501f99467f57aaf5a1eb3073b11dee48f4",
         before: "",
         after: "}\n",
     },
-    whole("WorldBBox", DRAWABLE, (11, 44), "#[derive(Clone, Copy, Debug)]", "}"),
+    whole(
+        "WorldBBox",
+        DRAWABLE,
+        (11, 44),
+        "#[derive(Clone, Copy, Debug)]",
+        "}",
+        "3ae1c54c1b9c2b26334d5624d9a98323075e9c77792944028859b7a0aeb63a6a",
+    ),
     whole(
         "limits of collapse",
         DRAWABLE,
         (246, 249),
         "const REF_LOAD_THRESHOLD_PX: f32 = 24.0;",
         "const REF_MAX_GRID_EXPANSION: u64 = 8_192;",
+        "895172d885347b126614ff4c45461c2d2f6b51fbf98f25a66d60811a58fbb7b8",
     ),
     whole(
         "should_collapse_reference",
@@ -67,6 +79,7 @@ pub const PIECES: &[Piece] = &[
         (1126, 1151),
         "pub fn should_collapse_reference(",
         "}",
+        "95c8d10f82d46d4ac2b1baa8d4f8e5ba63ef3c3df9c1a4d2ee195459b99188f0",
     ),
     whole(
         "limits of the planner",
@@ -74,24 +87,41 @@ pub const PIECES: &[Piece] = &[
         (9, 16),
         "const MAX_DETAIL_CELLS: usize = 20_000;",
         "const MIN_FIXED_CONTENT_PX: f32 = 24.0;",
+        "d5629f6cec544c70cf1a438f14b3aed9baf81337179c26eba5d3bb6f677c4b76",
     ),
-    whole("prepared library and plan", SCENE, (31, 123), "pub struct PreparedGeometry {", "}"),
+    whole(
+        "prepared library and plan",
+        SCENE,
+        (31, 123),
+        "pub struct PreparedGeometry {",
+        "}",
+        "144b9669df028d40f6668cd2e7f2cffc4b28394283ea3aa667a44e3871605204",
+    ),
     Piece {
         name: "PreparedLibrary::plan",
         file: SCENE,
         lines: (377, 398),
         first: "    pub fn plan(&self, cell_name: &str, options: &SceneOptions<'_>) -> ScenePlan {",
         last: "    }",
+        sha256: "64eded15fe35fcbfc84541ff959f26a4ab570e2a46a9be4184aeeac30bb5ddf3",
         before: "impl PreparedLibrary {\n",
         after: "}\n",
     },
-    whole("Planner: visits, pushes, draw units", SCENE, (415, 724), "struct Planner<'a> {", "}"),
+    whole(
+        "Planner: visits, pushes, draw units",
+        SCENE,
+        (415, 724),
+        "struct Planner<'a> {",
+        "}",
+        "3300defcb7a5bde43f72728712bfc0616ba0f500561bd10659750b2581a6cf5e",
+    ),
     whole(
         "point_position",
         SCENE,
         (752, 754),
         "fn point_position(point: &Point) -> DVec2 {",
         "}",
+        "589b51d1241157e263362d2a99e3809d6c561fa3741bf20c593ba1dd1c663415",
     ),
     whole(
         "grid_count to point_in_bbox",
@@ -99,6 +129,7 @@ pub const PIECES: &[Piece] = &[
         (756, 837),
         "fn grid_count(grid: &Grid) -> u64 {",
         "}",
+        "0ec0f7f1ede199aa8a245c92167708bea8984ae6102b5e61dcfe91258d411e53",
     ),
 ];
 
