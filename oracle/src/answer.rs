@@ -12,7 +12,8 @@ pub struct Refusal {
     pub offset: u32,
 }
 
-/// What a call of the library answers: number 0 for a plan, and then the tape's length.
+/// What a call of the library answers: number 0 for a plan. The length is the tape's, with number 12 that of the tape
+/// that did not fit, and 0 with every other number.
 #[derive(Clone, Copy, Debug, Default, PartialEq, Eq)]
 pub struct Answer {
     pub number: u32,

@@ -108,7 +108,8 @@ pub fn is_as_stated(answer: Answer, before: &Lent, after: &Lent, needed: Option<
         && after.marks[marks..] == before.marks[marks..];
     if before.output.len() < tape {
         let zeroed = after.output.iter().all(|&byte| byte == 0);
-        return answer == (Answer { number: 12, offset: 0, length: 0 }) && scratch && zeroed;
+        // The length that would have been enough, for a caller to lend.
+        return answer == (Answer { number: 12, offset: 0, length: tape as u64 }) && scratch && zeroed;
     }
     let past = after.output[tape..] == before.output[tape..];
     answer == (Answer { number: 0, offset: 0, length: tape as u64 }) && scratch && past

@@ -51,12 +51,13 @@ pub fn call(plan: PlanFn, sheet: &[u8], query: &Query, lent: &mut Lent) -> Answe
         return refused(Refusal { number: 11, offset: 0 });
     }
     let tape = tape::write(&plan(&opened, query, Settings::DOCUMENT));
+    let length = tape.len() as u64;
     lent.counts[..counts].fill(0);
     lent.marks[..marks].fill(0);
     if tape.len() > lent.output.len() {
         lent.output.fill(0);
-        return refused(Refusal { number: 12, offset: 0 });
+        return Answer { number: 12, offset: 0, length };
     }
     lent.output[..tape.len()].copy_from_slice(&tape);
-    Answer { number: 0, offset: 0, length: tape.len() as u64 }
+    Answer { number: 0, offset: 0, length }
 }
