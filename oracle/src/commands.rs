@@ -9,7 +9,7 @@ use crate::checksum::fnv1a;
 use crate::coverage::{Coverage, tags};
 use crate::edits::{ALTERATIONS, Edit, PIECES, SUBSTITUTIONS, instrument::INSTRUMENT, planted};
 use crate::events::{OutOfFuel, fuel_left, set_fuel};
-use crate::generator::{FAMILIES, Family, edges, faults, large::LARGE, make, make_edge, make_large};
+use crate::generator::{FAMILIES, Family, edges, family, faults, large::LARGE, make, make_edge, make_large};
 use crate::harness::{Oracle, Tally};
 use crate::stored::{answer, read_cases, read_large};
 use crate::variants::{JUDGE, checked};
@@ -36,10 +36,15 @@ fn fresh(family: &Family, seed: u64) -> Option<(Vec<u8>, Outcome)> {
     bounded(|| answer(&input)).map(|(outcome, _)| (input, outcome))
 }
 
-/// Fresh cases of every family, both copies checked against each other on each: cases run and passed over.
-pub fn fresh_cases(seed: u64, each: u64, coverage: &mut Coverage) -> (u64, u64) {
+/// Fresh cases of these families, both copies checked against each other on each: cases run and passed over.
+pub fn fresh_cases<'a>(
+    families: impl IntoIterator<Item = &'a Family>,
+    seed: u64,
+    each: u64,
+    coverage: &mut Coverage,
+) -> (u64, u64) {
     let (mut run, mut passed_over) = (0, 0);
-    for family in FAMILIES {
+    for family in families {
         for seed in seed..seed + each {
             match fresh(family, seed) {
                 Some((_, outcome)) => {
@@ -56,7 +61,7 @@ pub fn fresh_cases(seed: u64, each: u64, coverage: &mut Coverage) -> (u64, u64) 
 /// Coverage of hand-made, fresh, large and lent cases together.
 pub fn coverage(seed: u64, each: u64) {
     let mut coverage = Coverage::default();
-    let (run, passed_over) = fresh_cases(seed, each, &mut coverage);
+    let (run, passed_over) = fresh_cases(FAMILIES, seed, each, &mut coverage);
     let mut hand = 0;
     let inputs = edges::all().iter().map(make_edge).collect::<Vec<_>>();
     for input in inputs.into_iter().chain(faults::all().into_iter().map(|fault| fault.input)) {
@@ -75,6 +80,14 @@ pub fn coverage(seed: u64, each: u64) {
     }
     coverage.add(&tags(&(JUDGE.program)(checked, &[0; 65], 64)));
     println!("{run} fresh, {hand} by hand, {} large, {} calls on lent memory; {passed_over} passed over as hostile", LARGE.len(), tally.calls);
+    print!("{}", coverage.table());
+}
+
+/// Coverage of the fresh cases of one family alone.
+pub fn family_coverage(name: &str, seed: u64, each: u64) {
+    let mut coverage = Coverage::default();
+    let (run, passed_over) = fresh_cases(family(name), seed, each, &mut coverage);
+    println!("{run} fresh of {name}; {passed_over} passed over as hostile");
     print!("{}", coverage.table());
 }
 

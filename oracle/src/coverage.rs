@@ -1,10 +1,10 @@
-//! What a case shows: refusals, record kinds, sources, causes of proxies, limits. Counted over any run of cases.
+//! What a case shows: refusals, record kinds, sources, causes of proxies, limits, ranges. Counted over any run of cases.
 
 use std::collections::{BTreeMap, BTreeSet};
 
 use crate::answer::{End, Outcome};
 use crate::events::{Cause, Event, Limits, Run};
-use crate::sheet::{Sheet, Source};
+use crate::sheet::{Cell, Query, Sheet, Source};
 
 /// Every tag that a full run should show, in the order of the table.
 pub const TAGS: &[&str] = &[
@@ -21,6 +21,9 @@ pub const TAGS: &[&str] = &[
     "culled-reference", "skipped-reference", "culled-batch", "skipped-batch",
     "hidden-layers", "depth-0", "depth-32", "deep-32",
     "absent-box", "zero-columns-or-rows", "reflection", "slanted", "not-finite-zoomed",
+    "below-root", "listed-huge", "listed-subnormal", "below-root-huge", "below-root-subnormal", "turn-of-no-angle",
+    "view-huge", "zoom-greatest", "zoom-subnormal",
+    "node-50-points", "text-512-bytes", "list-65535", "hidden-65000", "cells-3000", "cells-4096", "inner-chain-3000",
 ];
 
 fn sheet_tags(sheet: &Sheet, tags: &mut BTreeSet<&'static str>) {
@@ -93,6 +96,71 @@ fn run_tags(run: &Run, tags: &mut BTreeSet<&'static str>) {
     tags.extend(met.iter().filter(|tag| tag.0).map(|tag| tag.1));
 }
 
+/// Above this a float counts as huge.
+const HUGE: f64 = 1e100;
+
+fn is_huge(value: f64) -> bool {
+    value.is_finite() && value.abs() >= HUGE
+}
+
+/// The floats of a listed record.
+fn listed(event: &Event) -> &[f64] {
+    match event {
+        Event::Batch { placement, .. } => placement,
+        Event::Text { position, .. } | Event::Point { position, .. } => position,
+        Event::Proxy { bbox, .. } => bbox,
+        _ => &[],
+    }
+}
+
+/// The ranges of floats that a plan with something listed reaches.
+fn float_tags(sheet: &Sheet, query: &Query, run: &Run, tags: &mut BTreeSet<&'static str>) {
+    let values = || run.record.events.iter().flat_map(listed).copied();
+    let (huge, subnormal) = (values().any(is_huge), values().any(f64::is_subnormal));
+    let (below, any) = (run.lists.totals[0] > 1, values().next().is_some());
+    let no_angle = |length: f64| !(0.5..2.0).contains(&length);
+    let turned = sheet.references.iter().any(|reference| no_angle(reference.cos.hypot(reference.sin)));
+    let shown = [
+        (below, "below-root"),
+        (huge, "listed-huge"),
+        (subnormal, "listed-subnormal"),
+        (below && huge, "below-root-huge"),
+        (below && subnormal, "below-root-subnormal"),
+        (below && turned, "turn-of-no-angle"),
+        (any && query.view.into_iter().any(is_huge), "view-huge"),
+        (any && query.zoom == f64::MAX, "zoom-greatest"),
+        (any && query.zoom.is_subnormal(), "zoom-subnormal"),
+    ];
+    tags.extend(shown.iter().filter(|tag| tag.0).map(|tag| tag.1));
+}
+
+/// The longest chain of references in references. A source stands before what places it.
+fn longest_inner_chain(sheet: &Sheet) -> usize {
+    let mut lengths: Vec<usize> = Vec::new();
+    for reference in &sheet.references {
+        lengths.push(match reference.source {
+            Source::Reference(inner) => lengths[inner as usize] + 1,
+            _ => 1,
+        });
+    }
+    lengths.into_iter().max().unwrap_or(0)
+}
+
+/// How long records, lists and chains are.
+fn length_tags(sheet: &Sheet, query: &Query, tags: &mut BTreeSet<&'static str>) {
+    let lists = |cell: &Cell| [&cell.batches, &cell.texts, &cell.nodes, &cell.references].map(Vec::len);
+    let shown = [
+        (sheet.nodes.iter().any(|node| node.points.len() == 50), "node-50-points"),
+        (sheet.texts.iter().any(|text| text.value_bytes == 512), "text-512-bytes"),
+        (sheet.cells.iter().any(|cell| lists(cell).contains(&65_535)), "list-65535"),
+        (query.hidden.len() >= 65_000, "hidden-65000"),
+        (sheet.cells.len() >= 3_000, "cells-3000"),
+        (sheet.cells.len() == 4_096, "cells-4096"),
+        (longest_inner_chain(sheet) >= 3_000, "inner-chain-3000"),
+    ];
+    tags.extend(shown.iter().filter(|tag| tag.0).map(|tag| tag.1));
+}
+
 pub fn cause_tag(cause: Cause) -> &'static str {
     match cause {
         Cause::DepthZero => "proxy-depth-0",
@@ -123,6 +191,8 @@ pub fn tags(outcome: &Outcome) -> BTreeSet<&'static str> {
     if let (Some(sheet), Some(run), Some(query)) = (&outcome.sheet, &outcome.run, &outcome.query) {
         sheet_tags(sheet, &mut tags);
         run_tags(run, &mut tags);
+        float_tags(sheet, query, run, &mut tags);
+        length_tags(sheet, query, &mut tags);
         let asked = [
             (!query.hidden.is_empty(), "hidden-layers"),
             (query.depth == 0, "depth-0"),

@@ -32,8 +32,9 @@ use std::io::{Read, Write, stdin, stdout};
 use std::path::{Path, PathBuf};
 use std::process::exit;
 
-const USAGE: &str = "oracle COMMAND: plan [BUFFER] | planted-plan NUMBER | edits | mistakes | coverage EACH [SEED] |
-  cases EACH [SEED] | large NUMBER | store | verify | replay | choose SEEDS | planted | cover COUNT [SEED] |
+const USAGE: &str = "oracle COMMAND: plan [BUFFER] | planted-plan NUMBER | edits | mistakes |
+  coverage EACH [SEED [FAMILY]] |
+  cases EACH [SEED] | large NUMBER | store | verify | replay | choose SEEDS [FAMILY] | planted | cover COUNT [SEED] |
   memory COUNT [SEED] | timings | quick
   with the feature `library`: differential COUNT [SEED] | files FOLDER | race [ROUNDS]";
 
@@ -65,7 +66,10 @@ fn main() {
         "planted-plan" => planted_plan(number(1, 1) as usize),
         "edits" => print(commands::edits_page().as_bytes()),
         "mistakes" => commands::print_mistakes(),
-        "coverage" => commands::coverage(number(2, 0), number(1, 100)),
+        "coverage" => match arguments.get(3) {
+            Some(family) => commands::family_coverage(family, number(2, 0), number(1, 100)),
+            None => commands::coverage(number(2, 0), number(1, 100)),
+        },
         "cases" => commands::write_cases(number(2, 0), number(1, 10), &mut stdout().lock()),
         "large" => {
             let case = &generator::large::LARGE[number(1, 0) as usize];
@@ -77,7 +81,7 @@ fn main() {
             verdict((3 - different, different));
         }
         "replay" => verdict(commands::replay(&folder)),
-        "choose" => planted::choose(&folder, number(1, 100)),
+        "choose" => planted::choose(&folder, number(1, 100), arguments.get(2).map(String::as_str)),
         "planted" => verdict(planted::run(&folder, true)),
         "cover" => cover(number(2, 0), number(1, 1_000)),
         "memory" => memory(number(2, 0), number(1, 1_000)),
@@ -173,7 +177,7 @@ fn quick(folder: &Path) -> ! {
     add("document 01's readings", readings::run());
     add("stored answers", commands::replay(folder));
     let mut coverage = coverage::Coverage::default();
-    let (run, _) = commands::fresh_cases(1_000_000, 300, &mut coverage);
+    let (run, _) = commands::fresh_cases(generator::FAMILIES, 1_000_000, 300, &mut coverage);
     add("fresh cases, both copies alike", (run as usize, 0));
     let tally = brute::search(variants::checked, 1_000_000, 3_000, false);
     add("demand 3 by brute force", ((tally.sheets - tally.faults) as usize, tally.faults as usize));

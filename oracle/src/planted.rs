@@ -157,8 +157,8 @@ pub fn run(folder: &Path, verbose: bool) -> (usize, usize) {
     (passed, reports.len() - passed)
 }
 
-/// Looks among fresh cases for one that shows each mistake that no stored case shows.
-pub fn choose(folder: &Path, seeds: u64) {
+/// Looks among fresh cases, of one family if it is named, for one that shows each mistake that no stored case shows.
+pub fn choose(folder: &Path, seeds: u64, family: Option<&str>) {
     let store = Store::open(folder);
     quietly(|| {
         for (place, mistake) in all().enumerate() {
@@ -168,7 +168,7 @@ pub fn choose(folder: &Path, seeds: u64) {
             if store.seen(place + 1, mistake, false).0 > 0 {
                 continue;
             }
-            match find(place + 1, mistake, seeds) {
+            match find(place + 1, mistake, seeds, family) {
                 Some((family, seed)) => println!("    (\"{family}\", {seed}), // {}", mistake.name),
                 None => println!("    // no small case shows: {}", mistake.name),
             }
@@ -176,9 +176,9 @@ pub fn choose(folder: &Path, seeds: u64) {
     });
 }
 
-fn find(number: usize, mistake: &Planted, seeds: u64) -> Option<(&'static str, u64)> {
+fn find(number: usize, mistake: &Planted, seeds: u64, name: Option<&str>) -> Option<(&'static str, u64)> {
     for seed in 0..seeds {
-        for family in FAMILIES {
+        for family in FAMILIES.iter().filter(|family| name.is_none_or(|name| name == family.name)) {
             let input = make(family, seed);
             let Some(expected) = with_mistake(0, || answer(&input).text) else { continue };
             if text_with(number, mistake, &input).as_ref() != Some(&expected) && is_small(&input) {

@@ -8,12 +8,13 @@ pub struct Batch {
     pub bbox: [f64; 4],
 }
 
-/// A text without its value bytes, which no plan shows.
+/// A text without its value, which no plan shows. Only the count of its bytes is kept, where it was read, for the coverage.
 #[derive(Clone, Debug, PartialEq)]
 pub struct Text {
     pub layer: u16,
     pub data_type: u16,
     pub origin: [f64; 2],
+    pub value_bytes: usize,
 }
 
 #[derive(Clone, Debug, PartialEq)]

@@ -13,7 +13,7 @@ impl Sheet {
     }
 
     pub fn text(&mut self, layer: u16, data_type: u16, origin: [f64; 2]) -> u32 {
-        self.texts.push(Text { layer, data_type, origin });
+        self.texts.push(Text { layer, data_type, origin, value_bytes: 0 });
         self.texts.len() as u32 - 1
     }
 
@@ -162,12 +162,28 @@ pub fn cell_bytes(cell: &Cell) -> Vec<u8> {
     lists.iter().flat_map(|list| list.iter()).fold(head, |writer, &number| writer.four(number)).end()
 }
 
+fn value(rng: &mut Rng, length: usize) -> Vec<u8> {
+    (0..length).map(|_| rng.next() as u8).collect()
+}
+
+/// A text's value as most families have it.
+fn short_value(rng: &mut Rng) -> Vec<u8> {
+    let length = if rng.chance(1, 8) { rng.size(0, 40) } else { rng.size(0, 4) };
+    value(rng, length)
+}
+
+/// A text's value of up to 512 bytes.
+pub fn long_value(rng: &mut Rng) -> Vec<u8> {
+    let length = if rng.chance(1, 3) { 512 } else { rng.size(0, 512) };
+    value(rng, length)
+}
+
 /// The records of a sheet in a random order that keeps each kind's own.
 pub fn records(sheet: &Sheet, rng: &mut Rng) -> Vec<Vec<u8>> {
-    let value = |rng: &mut Rng| {
-        let length = if rng.chance(1, 8) { rng.size(0, 40) } else { rng.size(0, 4) };
-        (0..length).map(|_| rng.next() as u8).collect::<Vec<u8>>()
-    };
+    records_with(sheet, short_value, rng)
+}
+
+fn records_with(sheet: &Sheet, value: fn(&mut Rng) -> Vec<u8>, rng: &mut Rng) -> Vec<Vec<u8>> {
     let mut kinds: [std::collections::VecDeque<Vec<u8>>; 5] = [
         sheet.batches.iter().map(batch_bytes).collect(),
         sheet.texts.iter().map(|text| text_bytes(text, &value(rng))).collect(),
@@ -186,7 +202,11 @@ pub fn records(sheet: &Sheet, rng: &mut Rng) -> Vec<Vec<u8>> {
 }
 
 pub fn input(query: &Query, sheet: &Sheet, rng: &mut Rng) -> Vec<u8> {
+    input_with(query, sheet, short_value, rng)
+}
+
+pub fn input_with(query: &Query, sheet: &Sheet, value: fn(&mut Rng) -> Vec<u8>, rng: &mut Rng) -> Vec<u8> {
     let mut bytes = query_bytes(query);
-    bytes.extend(records(sheet, rng).concat());
+    bytes.extend(records_with(sheet, value, rng).concat());
     bytes
 }

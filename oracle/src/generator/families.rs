@@ -49,7 +49,7 @@ pub fn false_boxes(rng: &mut Rng) -> Pair {
 }
 
 /// A cos and a sin near the unit circle, by steps that round alike on every machine.
-fn turn(rng: &mut Rng) -> (f64, f64) {
+pub fn turn(rng: &mut Rng) -> (f64, f64) {
     let t = 2.0 * rng.unit() - 1.0;
     let (cos, sin) = ((1.0 - t * t) / (1.0 + t * t), 2.0 * t / (1.0 + t * t));
     if rng.chance(1, 2) { (cos, sin) } else { (-cos, -sin) }

@@ -1,7 +1,9 @@
-//! Large cases, kept as a name, a seed and a checksum: the limits of 10,000 and more records, sheets up to 16 MiB.
+//! Large cases, kept as a name, a seed and a checksum: the limits of 10,000 and more records, sheets up to 16 MiB. Long
+//! lists and chains are made by `long`.
 
 use super::boxes::grow_true_boxes;
 use super::encode::{QUARTERS, grid, input, query_bytes, single};
+use super::long;
 use super::rng::Rng;
 use crate::sheet::{Query, Sheet, Source};
 
@@ -54,6 +56,15 @@ pub const LARGE: &[Large] = &[
     large("city", 2_000, city),
     large("city", 6_000, city),
     large("city", 12_000, city),
+    large("chain of cells", 3_000, long::chain_of_cells),
+    large("chain of cells", 4_096, long::chain_of_cells),
+    large("end of a chain of cells", 3_000, long::end_of_a_chain_of_cells),
+    large("end of a chain of cells", 4_096, long::end_of_a_chain_of_cells),
+    large("chain of references", 3_000, long::chain_of_references),
+    large("chain of references", 4_096, long::chain_of_references),
+    large("four lists of so many numbers", 65_535, long::four_long_lists),
+    large("hidden layers", 16_384, long::hidden_layers),
+    large("hidden layers", 65_000, long::hidden_layers),
 ];
 
 const WIDE: [f64; 4] = [-1e9, -1e9, 1e9, 1e9];

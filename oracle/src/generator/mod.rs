@@ -6,10 +6,12 @@ pub mod encode;
 pub mod families;
 pub mod faults;
 pub mod large;
+pub mod long;
 pub mod query;
 pub mod refusals;
 pub mod rng;
 pub mod square;
+pub mod wide;
 
 use families::Pair;
 use rng::Rng;
@@ -18,6 +20,8 @@ use rng::Rng;
 #[derive(Clone, Copy)]
 pub enum Make {
     Pair(fn(&mut Rng) -> Pair),
+    /// With texts of up to 512 bytes.
+    LongTexts(fn(&mut Rng) -> Pair),
     Bytes(fn(&mut Rng) -> Vec<u8>),
 }
 
@@ -53,6 +57,14 @@ pub const FAMILIES: &[Family] = &[
     bytes("query-faults", refusals::query_faults),
     bytes("no-query", refusals::no_query),
     bytes("noise", refusals::noise),
+    pair("scaled", wide::scaled),
+    pair("any-floats", wide::any_floats),
+    pair("any-turns", wide::any_turns),
+    pair("any-views", wide::any_views),
+    Family { name: "long-records", make: Make::LongTexts(long::long_records) },
+    pair("long-lists", long::long_lists),
+    pair("many-hidden", long::many_hidden),
+    pair("many-cells", long::many_cells),
 ];
 
 /// The input of one family at one seed.
@@ -67,6 +79,10 @@ pub fn make(family: &Family, seed: u64) -> Vec<u8> {
         Make::Pair(make) => {
             let (query, sheet) = make(&mut rng);
             encode::input(&query, &sheet, &mut rng)
+        }
+        Make::LongTexts(make) => {
+            let (query, sheet) = make(&mut rng);
+            encode::input_with(&query, &sheet, encode::long_value, &mut rng)
         }
         Make::Bytes(make) => make(&mut rng),
     }

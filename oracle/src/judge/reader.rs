@@ -139,7 +139,12 @@ fn add_record(sheet: &mut Sheet, kind: u16, record: &[u8]) {
             elements: u32_at(record, 10),
             bbox: floats(record, 14),
         }),
-        2 => sheet.texts.push(Text { layer, data_type, origin: floats(record, 10) }),
+        2 => sheet.texts.push(Text {
+            layer,
+            data_type,
+            origin: floats(record, 10),
+            value_bytes: record.len() - 26,
+        }),
         3 => sheet.nodes.push(Node {
             layer,
             node_type: data_type,

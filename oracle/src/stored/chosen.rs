@@ -3,4 +3,6 @@
 pub const CHOSEN: &[(&str, u64)] = &[
     ("chains", 110), // sizes are narrowed before they are zoomed
     ("density", 21), // a cell's own units count once for the cell and once for its batches
+    ("any-turns", 985), // a product that is not finite is not fused
+    ("scaled", 213), // a subnormal width is 0
 ];

@@ -118,6 +118,8 @@ pub const TABLE: &[Planted] = &[
         (1, "layer_of((key >> 16) as u16, key as u16)", "layer_of(key as u16, (key >> 16) as u16)")),
     mistake!("a hidden layer hides all its types", Planner, Seen::Cover,
         (1, "if self.options.hidden_layers.contains(&text.layer) {", "if self.options.hidden_layers.iter().any(|hidden| hidden.0 == text.layer.0) {")),
+    mistake!("only the first 16,384 hidden layers count", Planner, Seen::Stored,
+        (1, "query.hidden.iter().map(", "query.hidden.iter().take(16_384).map(")),
     mistake!("nodes are never hidden", Planner, Seen::Stored,
         (1, "if self.options.hidden_layers.contains(&node.layer) {", "if false {")),
     mistake!("texts are never hidden", Planner, Seen::Stored,
