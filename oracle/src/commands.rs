@@ -165,7 +165,7 @@ pub fn edits_page() -> String {
     let mut text = String::from(
         "# What is taken from the Rust source, and every edit of it\n\nMade by `oracle edits`; `oracle/quick` checks that it \
          is up to date. build.rs asserts the SHA-256 of each piece, and that each edit meets exactly its count of places. \
-         `sed -n '6,81p' FILE | sha256sum` prints a piece's hash.\n\n## Pieces\n\n| piece | file | lines | SHA-256 |\n\
+         Of lines 6 to 81 `sed -n '6,81p' FILE | sha256sum` prints the hash.\n\n## Pieces\n\n| piece | file | lines | SHA-256 |\n\
          |---|---|---|---|\n",
     );
     for piece in PIECES {

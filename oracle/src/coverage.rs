@@ -1,4 +1,4 @@
-//! What a case shows: refusals, record kinds, sources, causes of proxies, limits, ranges. Counted over any run of cases.
+//! What a case shows: refusals, record kinds, sources, causes of proxies, limits, ranges. Counted over a run of cases.
 
 use std::collections::{BTreeMap, BTreeSet};
 

@@ -52,7 +52,7 @@ fn block(state: [u32; 8], bytes: &[u8]) -> [u32; 8] {
     std::array::from_fn(|place| state[place].wrapping_add(mixed[place]))
 }
 
-/// Messages (a text and how often it stands) of NIST's example values, one and two blocks and a million bytes among them.
+/// NIST's example values: a text, how often the message holds it, and the hash. They have one block, two, and many.
 #[allow(dead_code)]
 const VECTORS: [(&str, usize, &str); 5] = [
     ("", 1, "e3b0c44298fc1c149afbf4c8996fb92427ae41e4649b934ca495991b7852b855"),

@@ -8,7 +8,8 @@ pub struct Batch {
     pub bbox: [f64; 4],
 }
 
-/// A text without its value, which no plan shows. Only the count of its bytes is kept, where it was read, for the coverage.
+/// A text without its value, which no plan shows. The coverage asks how many bytes the value had in the sheet that was
+/// read; in a sheet that is not yet written their count is 0.
 #[derive(Clone, Debug, PartialEq)]
 pub struct Text {
     pub layer: u16,

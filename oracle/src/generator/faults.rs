@@ -25,7 +25,7 @@ fn batch() -> Vec<u8> {
 }
 
 fn text(value: usize) -> Vec<u8> {
-    text_bytes(&Text { layer: 1, data_type: 2, origin: [5.0, 6.0], value_bytes: value }, &vec![b'a'; value])
+    text_bytes(&Text { layer: 1, data_type: 2, origin: [5.0, 6.0], value_bytes: 0 }, &vec![b'a'; value])
 }
 
 fn node(points: usize) -> Vec<u8> {

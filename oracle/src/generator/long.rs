@@ -1,5 +1,5 @@
-//! Families of long things, up to document 01's limits: nodes of 50 points, texts of 512 bytes, lists of 65,535 numbers,
-//! 65,000 hidden layers, 4,096 cells, chains of cells and of inner references. Their large cases take the same makers.
+//! Families of long records, lists and chains: nodes of 50 points, texts of 512 bytes, lists of 65,535 numbers, 65,000
+//! hidden layers, 4,096 cells, chains of cells and of inner references; and the large cases of the same.
 
 use super::boxes::{Sides, grow_true_boxes, join, reference_box, true_boxes};
 use super::encode::{QUARTERS, input, single};
@@ -244,7 +244,8 @@ pub fn four_long_lists(rng: &mut Rng, length: u64) -> Vec<u8> {
     let mut numbers = vec![1; length as usize];
     numbers[length as usize - 1] = 0;
     let root = sheet.cell(0, None);
-    (root.batches, root.texts, root.nodes, root.references) = (numbers.clone(), numbers.clone(), numbers.clone(), numbers);
+    (root.batches, root.texts) = (numbers.clone(), numbers.clone());
+    (root.nodes, root.references) = (numbers.clone(), numbers);
     grow_true_boxes(&mut sheet);
     let query = Query { view: [0.0, 0.0, 100.0, 100.0], ..whole_root(&sheet, 0, 3, 1.0) };
     input(&query, &sheet, rng)
