@@ -72,7 +72,7 @@ pub fn coverage(seed: u64, each: u64) {
         coverage.add(&tags(&answer(&make_large(large))));
     }
     let mut subject = Oracle { plan: checked, judge: JUDGE };
-    let tally = crate::harness::run(&mut subject, seed, each, false);
+    let tally = crate::harness::run(&mut subject, seed, each);
     for (tag, number) in [("refusal-11", 11), ("refusal-12", 12)] {
         for _ in 0..tally.numbers.get(&number).copied().unwrap_or(0) {
             coverage.add_tag(tag);

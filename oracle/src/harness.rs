@@ -7,7 +7,7 @@ use std::collections::BTreeMap;
 
 use crate::answer::{Answer, Judge, Lent, PlanFn};
 use crate::generator::rng::Rng;
-use crate::generator::{FAMILIES, make};
+use crate::generator::{FAMILIES, Family, make};
 use crate::judge::call::plan;
 use crate::judge::program::split;
 use crate::sheet::Query;
@@ -145,15 +145,30 @@ fn one(subject: &mut dyn Subject, name: &str, seed: u64, input: &[u8], tally: &m
 }
 
 /// `count` cases from a seed on, family by family.
-pub fn run(subject: &mut dyn Subject, seed: u64, count: u64, stop_at_difference: bool) -> Tally {
+pub fn run(subject: &mut dyn Subject, seed: u64, count: u64) -> Tally {
     let mut tally = Tally::default();
-    for place in 0..count {
-        let family = &FAMILIES[(place % FAMILIES.len() as u64) as usize];
-        let seed = seed + place / FAMILIES.len() as u64;
+    for (family, seed) in cases(seed, count) {
         one(subject, family.name, seed, &make(family, seed), &mut tally);
-        if stop_at_difference && tally.differences > 0 {
+    }
+    tally
+}
+
+/// The same up to the first difference, without inputs of more than `most` bytes.
+pub fn run_to_difference(subject: &mut dyn Subject, seed: u64, count: u64, most: usize) -> Tally {
+    let mut tally = Tally::default();
+    for (family, seed) in cases(seed, count) {
+        let input = make(family, seed);
+        if input.len() <= most {
+            one(subject, family.name, seed, &input, &mut tally);
+        }
+        if tally.differences > 0 {
             break;
         }
     }
     tally
+}
+
+fn cases(seed: u64, count: u64) -> impl Iterator<Item = (&'static Family, u64)> {
+    let families = FAMILIES.len() as u64;
+    (0..count).map(move |place| (&FAMILIES[(place % families) as usize], seed + place / families))
 }

@@ -137,7 +137,7 @@ fn cover(seed: u64, count: u64) {
 /// Calls on lent memory: the judge's own answers and memory against document 01's sentences.
 fn memory(seed: u64, count: u64) {
     let mut subject = harness::Oracle { plan: variants::copies().instrumented, judge: variants::JUDGE };
-    let tally = harness::run(&mut subject, seed, count, false);
+    let tally = harness::run(&mut subject, seed, count);
     println!("calls by number: {:?}", tally.numbers);
     if let Some(first) = &tally.first {
         println!("first fault: {first}");
@@ -182,7 +182,7 @@ fn quick(folder: &Path) -> ! {
     let tally = brute::search(variants::checked, 1_000_000, 3_000, false);
     add("demand 3 by brute force", ((tally.sheets - tally.faults) as usize, tally.faults as usize));
     let mut subject = harness::Oracle { plan: variants::copies().instrumented, judge: variants::JUDGE };
-    let tally = harness::run(&mut subject, 1_000_000, 3_000, false);
+    let tally = harness::run(&mut subject, 1_000_000, 3_000);
     add("memory after calls as stated", ((tally.calls - tally.broken) as usize, tally.broken as usize));
     let gaps = commands::gaps(folder, &tally);
     gaps.iter().for_each(|tag| println!("no stored case shows {tag}"));
