@@ -280,7 +280,8 @@ static void expect_memory(const struct input *in, struct answer answer, const st
     uint8_t fill = lent->fill;
     expect(answer.number <= 12, "the number is 0 to 12");
     features[answer.number] = 1;
-    expect(answer.number == 0 || answer.length == 0, "a refusal has no length");
+    expect(answer.number == 0 || answer.number == 12 || answer.length == 0, "numbers 1 to 11 have no length");
+    expect(answer.number != 12 || answer.length > lent->out_length, "number 12 tells a length that was not lent");
     expect((answer.number >= 2 && answer.number <= 6) || answer.offset == 0, "only numbers 2 to 6 have an offset");
     expect(answer.offset == 0 || answer.offset < in->sheet_length, "the offset lies within the sheet");
     if (answer.number >= 1 && answer.number <= 11) {

@@ -20,9 +20,9 @@ extern "C" {
 #endif
 
 #define RIBALTZEN_VERSION_MAJOR 0
-#define RIBALTZEN_VERSION_MINOR 1
+#define RIBALTZEN_VERSION_MINOR 2
 #define RIBALTZEN_VERSION_PATCH 0
-#define RIBALTZEN_VERSION "0.1.0"
+#define RIBALTZEN_VERSION "0.2.0"
 
 /* What scene_plan returns: 0 for a plan, else the number of the first question that was answered "no".
  * ribaltzen_refusal has the questions' words. */

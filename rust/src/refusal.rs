@@ -15,28 +15,25 @@ pub struct Refusal {
 }
 
 impl Refusal {
-    /// Document 01's question.
+    /// The question, in the words of docs/FORMATS.md.
     pub fn question(&self) -> &'static str {
         match self.number {
             1 => "Is the sheet at most 16,777,216 bytes?",
             2 => "Are 6 bytes left, and is the length at least 6 and within the sheet?",
-            3 => "Is the kind 1 to 5 and the length right for it, a cell's counts included?",
+            3 => "Is the kind 1 to 5, and the length right for it, a cell's counts included?",
             4 => {
-                "Are columns and rows at most 32,767, spare flag bits zero, absent boxes zero, the source kind 1 to 5, \
-                 and a cell source below FFFFFFFF (hexadecimal)?"
+                "Are columns and rows at most 32,767, spare flag bits 0, absent boxes 0, the source kind 1 to 5, a \
+                 cell source below FFFFFFFF?"
             }
             5 => "Is every float finite?",
             6 => {
-                "Does every number in a cell, and every source but a cell source, name an existing record, and a \
-                 reference source an earlier one?"
+                "Does every number name a record that is there, and a reference source an earlier one?"
             }
             7 => "Are there at most 4,096 cells?",
             8 => "Is the view finite, min at most max?",
             9 => "Is zoom finite and above 0?",
             10 => "Is depth at most 32?",
-            11 => {
-                "Has the counts scratch cells × depth 64-bit places, and the marks scratch cells × (depth + 2) bytes?"
-            }
+            11 => "Are both scratch areas large enough?",
             12 => "Does the whole tape fit the lent output?",
             _ => "A question that this version does not know.",
         }

@@ -6,6 +6,9 @@ use ribaltzen::{Buffers, Lent, MOST_SHEET, Query, Record, Refusal, WorldBBox, pl
 use sheets::random::Random;
 use sheets::{batch, cell, record, reference, text, worked};
 
+/// The page whose words the questions have.
+const FORMATS: &str = include_str!("../../docs/FORMATS.md");
+
 const SQUARE: [f64; 4] = [0.0, 0.0, 9.0, 9.0];
 const QUERY: Query = Query::new(0, 1, WorldBBox::new(0.0, 0.0, 100.0, 100.0), 1.0);
 
@@ -139,7 +142,13 @@ fn a_refusal_says_what_was_asked() {
         "refused with number 12: Does the whole tape fit the lent output? No, it has 80 bytes."
     );
     for number in 1..=12 {
-        assert!(refusal(number, 0, None).question().ends_with('?'));
+        let question = refusal(number, 0, None).question();
+        let row = format!("| {number} | ");
+        assert!(
+            FORMATS
+                .lines()
+                .any(|line| line.starts_with(&row) && line.contains(question))
+        );
     }
 }
 

@@ -2,6 +2,8 @@
 use crate::Printed;
 use crate::part::put_part;
 use crate::part::text_end;
+ghost use mathlib.Core.Path.{_≡_};
+ghost use mathlib.Core.Bool.{true};
 ghost use Prim.Native.Nat.{_≤_};
 ghost use lib.ListN.{length};
 ghost use Rattle.plan_text.specs.Written.{lineRoom};
@@ -12,6 +14,7 @@ ghost use Rattle.plan_answer.specs.Text.{tapeEnd};
 pub fn print_answer(going: bool, text: &mut [u8], printed: Printed, tape: &[u8]) -> bool
     requires { ⌜ tapeEnd printed ≤ length (now tape) ⌝ }
     requires { ⌜ lineRoom ≤ length (now text) ⌝ }
+    ensures { λ r. ⌜ (r ≡ true → going ≡ true) ⌝ }
 {
     let end = text_end(printed);
     let mut at = 0;
@@ -23,5 +26,5 @@ pub fn print_answer(going: bool, text: &mut [u8], printed: Printed, tape: &[u8])
         }
         at = part.next;
     }
-    true
+    going
 }

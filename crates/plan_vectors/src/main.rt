@@ -553,6 +553,6 @@ fn lend(cases: &mut [u8]) {
 }
 
 fn main() {
-    let mut cases = [0u8; 1048576];
+    let mut cases = [0u8; 1572864];
     lend(&mut cases);
 }

@@ -1,6 +1,7 @@
 -- `plan_answer::print::print_answer` is safe and ends: every part goes further. The loop's invariant: the lent text keeps its length.
 -- Assumes nothing.
 use mathlib.Core.Path.{_≡_, refl}
+use mathlib.Core.Bool.{false≢true}
 use Prim.Native.Nat.{_-_}
 use native.Mathlib.Omega.{arith}
 use lib.ListN.{length}
@@ -31,4 +32,4 @@ pub print-answer-spec : {M : Type 1} → statement M
 print-answer-spec =
     tie.close
     (tie.spec Inv-loop μ-loop (λ c κs. search needs) (λ c. refl) part-requires prefix prefix-length (λ c κs. search needs)
-    (λ c. search needs) (λ c. tt) goes-further (λ c. search needs) (λ c. search needs) (λ c. tt))
+    (λ c. search needs) (λ c e. absurd (false≢true e)) goes-further (λ c. search needs) (λ c. search needs) (λ c e. e))
