@@ -67,6 +67,14 @@ fn programs() -> Vec<(&'static str, Vec<u8>, &'static str)> {
     ]
 }
 
+fn write_programs(folder: &str) {
+    for (place, (name, input, expected)) in programs().into_iter().enumerate() {
+        fs::write(format!("{folder}/{place}.input"), input).unwrap();
+        fs::write(format!("{folder}/{place}.name"), name).unwrap();
+        fs::write(format!("{folder}/{place}.begins"), expected).unwrap();
+    }
+}
+
 fn printed(input: Vec<u8>) -> Vec<u8> {
     io::INPUT.set(input);
     io::OUTPUT.take();

@@ -2,6 +2,7 @@
 //! that sees it, or `none`.
 //!
 //!     trial REPOSITORY LARGE CHANGE    LARGE: the folder of the large cases' inputs
+//!     trial inputs FOLDER              writes the inputs for `plan` to a folder, and of each what it shows and how its answer begins
 //!
 //! A fault in a case (an overflow, a place outside of a slice) is seen. What takes long comes last.
 
@@ -183,7 +184,7 @@ fn lengths(case: &Small) -> Vec<Lent> {
     };
     let (tape, cells, depth) = (tape_of(text), sheet.cells as usize, u32_of(&case.input, 10));
     let (counts, marks) = (cells * depth, cells * (depth + 2));
-    let mut lents: Vec<Lent> = [tape, tape + 1, tape - 1, tape - 54, tape - 53, 0].map(|out| Lent { out, counts, marks }).into();
+    let mut lents: Vec<Lent> = [tape, tape + 1, tape - 1, tape - 53, tape - 54, tape.saturating_sub(55), 0].map(|out| Lent { out, counts, marks }).into();
     for more in [1, 9] {
         lents.push(Lent { out: tape, counts: counts + more, marks: marks + more });
     }
@@ -242,6 +243,9 @@ fn seen(repository: &str, large: &str, change: u32) -> Option<(&'static str, Str
 
 fn main() {
     let words: Vec<String> = std::env::args().collect();
+    if words[1] == "inputs" {
+        return write_programs(&words[2]);
+    }
     std::panic::set_hook(Box::new(|_| {}));
     let run = move || {
         let change: u32 = words[3].parse().unwrap();

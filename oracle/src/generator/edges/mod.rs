@@ -1,6 +1,7 @@
 //! Cases made by hand: document 01's worked example, its "Readings at the edges", and places that chance seldom meets.
 
 mod counts;
+mod limits;
 mod numbers;
 mod sizes;
 mod visits;
@@ -45,6 +46,7 @@ pub fn all() -> Edges {
     numbers::corners(&mut edges);
     visits::layers(&mut edges);
     counts::cell_limit(&mut edges);
+    limits::limits(&mut edges);
     edges
 }
 
