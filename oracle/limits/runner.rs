@@ -1,8 +1,11 @@
 //! Runs one change of the translated code against everything that is stored, and prints the kind and the name of the first case
 //! that sees it, or `none`.
 //!
-//!     trial REPOSITORY LARGE CHANGE    LARGE: the folder of the large cases' inputs
-//!     trial inputs FOLDER              writes the inputs for `plan` to a folder, and of each what it shows and how its answer begins
+//!     trial REPOSITORY LARGE CHANGE CALL [quick]
+//!         LARGE: the folder of the large cases' inputs; CALL: the call for which the change is made, 0 for every one;
+//!         quick: without the large cases
+//!     trial inputs FOLDER
+//!         writes the inputs for `plan` to a folder, and of each what it shows and how its answer begins
 //!
 //! A fault in a case (an overflow, a place outside of a slice) is seen. What takes long comes last.
 
@@ -216,11 +219,14 @@ fn fnv1a(bytes: &[u8]) -> u64 {
     bytes.iter().fold(0xcbf2_9ce4_8422_2325, |sum, byte| (sum ^ u64::from(*byte)).wrapping_mul(0x100_0000_01b3))
 }
 
-/// The large cases, by the checksums of their texts.
+/// The large cases, by the checksums of their texts; but for the two largest cities, for time.
 fn run_large(repository: &str, folder: &str, room: &mut Room) -> Option<String> {
     let lines = fs::read_to_string(format!("{repository}/oracle/stored/large.txt")).unwrap();
     for line in lines.lines() {
         let words: Vec<&str> = line.split('\t').collect();
+        if words[1] == "city" && words[2].len() > 3 {
+            continue;
+        }
         let input = fs::read(format!("{folder}/{}", words[0])).unwrap();
         let expected = u64::from_str_radix(words[6], 16).unwrap();
         if sees(|| fnv1a(&room.text_of(&input)) == expected) {
@@ -231,14 +237,14 @@ fn run_large(repository: &str, folder: &str, room: &mut Room) -> Option<String> 
 }
 
 /// The kinds of runs in their order, and what the first that sees the change says.
-fn seen(repository: &str, large: &str, change: u32) -> Option<(&'static str, String)> {
+fn seen(repository: &str, large: &str, change: u32, quick: bool) -> Option<(&'static str, String)> {
     let (cases, mut room) = (small_cases(repository), Room::new());
     run_small(&cases, &mut room).map(|case| ("small", case))
         .or_else(|| run_sheets(repository).map(|case| ("sheets", case)))
         .or_else(|| run_floats(repository).map(|case| ("floats", case)))
         .or_else(|| run_lent(&cases, change).map(|case| ("lent", case)))
         .or_else(|| run_programs(large).map(|case| ("program", case)))
-        .or_else(|| run_large(repository, large, &mut room).map(|case| ("large", case)))
+        .or_else(|| if quick { None } else { run_large(repository, large, &mut room).map(|case| ("large", case)) })
 }
 
 fn main() {
@@ -250,7 +256,8 @@ fn main() {
     let run = move || {
         let change: u32 = words[3].parse().unwrap();
         switch::CHANGE.store(change, Relaxed);
-        match seen(&words[1], &words[2], change) {
+        switch::CALL.store(words[4].parse().unwrap(), Relaxed);
+        match seen(&words[1], &words[2], change, words.len() > 5) {
             Some((kind, case)) => println!("{kind}\t{case}"),
             None => println!("none\t"),
         }

@@ -6,8 +6,29 @@ pub mod switch {
     /// The change that is made: 0 for none. A place has the two changes `first` and `first + 1`.
     pub static CHANGE: AtomicU32 = AtomicU32::new(0);
 
+    /// The call for which the change is made: 0 for every one. And the call that is under way.
+    pub static CALL: AtomicU32 = AtomicU32::new(0);
+    static UNDER_WAY: AtomicU32 = AtomicU32::new(0);
+
+    /// Runs a call, noting which it is.
+    #[inline(always)]
+    pub fn from<R>(call: u32, run: impl FnOnce() -> R) -> R {
+        let before = UNDER_WAY.swap(call, Relaxed);
+        let result = run();
+        UNDER_WAY.store(before, Relaxed);
+        result
+    }
+
+    #[inline(always)]
     fn change(first: u32) -> u32 {
-        CHANGE.load(Relaxed).wrapping_sub(first)
+        let change = CHANGE.load(Relaxed).wrapping_sub(first);
+        if change < 2 {
+            let call = CALL.load(Relaxed);
+            if call != 0 && call != UNDER_WAY.load(Relaxed) {
+                return 2;
+            }
+        }
+        change
     }
 
     /// A number with the ones beside it. An integer is widened, so that no change wraps; beside a float stand the next floats.
@@ -41,6 +62,10 @@ pub mod switch {
                 fn up(self) -> $name { self.next_up() }
                 fn down(self) -> $name { self.next_down() }
             }
+            impl Step for $name {
+                fn after(self) -> Self { self.next_up() }
+                fn before(self) -> Self { self.next_down() }
+            }
         )*};
     }
 
@@ -55,6 +80,7 @@ pub mod switch {
 
     macro_rules! comparison {
         ($name:ident, $test:tt, $first:expr, $second:expr) => {
+            #[inline(always)]
             pub fn $name<N: Number>(place: u32, a: N, b: N) -> bool {
                 let (first, second): (fn(N, N) -> bool, fn(N, N) -> bool) = ($first, $second);
                 match change(place) {
@@ -73,6 +99,7 @@ pub mod switch {
     comparison!(same, ==, |a, b| a.wide() == b.up(), |a, b| a.wide() == b.down());
     comparison!(other, !=, |a, b| a.wide() != b.up(), |a, b| a.wide() != b.down());
 
+    #[inline(always)]
     pub fn number<N: Step>(place: u32, n: N) -> N {
         match change(place) {
             0 => n.after(),

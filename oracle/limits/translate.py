@@ -2,7 +2,7 @@
 
 Rattle code without its contracts is Rust code, so one file of Rust holds the crates as modules. A *place* is a comparison, an
 integer `match`, or a number of the crates whose numbers are themselves limits. Each place has two changes by one; the switch
-picks one change of one place, or none. `places()` answers the places, `rust()` the file's text.
+picks one change of one place, or none, and for a test that is called from several places one of these calls, or all.
 """
 import os, re
 
@@ -13,8 +13,16 @@ check_sheet_c plan_query plan_text plan_answer plan""".split()
 
 # Where numbers outside of comparisons are changed too: exponents, shifts and masks, the places of the scratch, and what `plan` lends.
 NUMBERS = {'floats', 'rounding', 'fused', 'scratch', 'plan'}
-# A named number that is an answer as well as a limit.
-NAMED = {'MAX_TOTAL'}
+# Named numbers that are changed where they stand outside of comparisons: an answer that is a limit, sizes in pixels, records' lengths.
+NAMED = {'MAX_TOTAL', 'MIN_FIXED_CONTENT_PX', 'REF_LOAD_MIN_AVG_INSTANCE_AREA_PX', 'MIN_AVERAGE_ELEMENT_AREA_PX',
+         'BATCH_SIZE', 'TEXT_SIZE', 'POINT_SIZE', 'PROXY_SIZE', 'TOTALS_SIZE'}
+
+# Functions with limit tests that are called from several places: their tests are changed for one call at a time, too, since
+# compiled code has a copy of the test at each.
+CALLED = {'detail_budget_exhausted', 'detail_cells_full', 'add_load', 'add_load_if_boxed', 'load_cell', 'overlaps', 'point_in_bbox',
+          'is_subpixel', 'collapse_test', 'all_below', 'zero_box', 'f64_is_finite', 'f32_is_finite', 'source_is_degenerate'}
+# What a call of these reaches through another of them.
+THROUGH = {'add_load_if_boxed': 'add_load', 'load_cell': 'add_load'}
 
 TOKEN = re.compile(r'''//[^\n]*|\s+|b"(?:\\.|[^"\\])*"|b'(?:\\.|[^'\\])'|[A-Za-z_]\w*|\d[\w]*(?:\.\d+\w*)?
     |<<|>>|<=|>=|==|!=|&&|\|\||->|=>|\+=|-=|::|\.\.|.''', re.X | re.S)
@@ -24,6 +32,20 @@ OTHER_EDGE = {'<': '<=', '<=': '<', '>': '>=', '>=': '>'}
 SECOND = {'<': -1, '<=': 1, '>': 1, '>=': -1}
 STOPS = {'&&', '||', '=', '=>', ',', ';', 'if', 'while', 'return', 'match', 'else', '!', '+=', '-='}
 OPEN, CLOSE = '([{', ')]}'
+
+
+class Call:
+    """A call of a function of CALLED: in which crate, file and function it stands."""
+    def __init__(self, crate, file, function, callee):
+        self.crate, self.file, self.function, self.callee, self.again = crate, file, function, callee, 0
+
+    def reaches(self):
+        """The function whose tests are changed."""
+        return THROUGH.get(self.callee, self.callee)
+
+    def name(self):
+        again = f' ({self.again + 1})' if self.again else ''
+        return f'{self.callee} in {self.crate}/{self.file} {self.function}{again}'
 
 
 class Place:
@@ -104,8 +126,8 @@ def text_between(tokens, start, end):
 
 class File:
     """A file of a crate: its places, and its text with the switches in."""
-    def __init__(self, crate, file, text, places):
-        self.crate, self.file, self.places = crate, file, places
+    def __init__(self, crate, file, text, places, calls):
+        self.crate, self.file, self.places, self.calls = crate, file, places, calls
         self.tokens = tokens_of(without_contracts(text))
         self.put = {}        # token index: text in its place
         self.compared = set()  # tokens of a comparison's operands
@@ -145,6 +167,8 @@ class File:
                 self.comparison(at)
             elif token == 'match':
                 self.match(at)
+            elif token in CALLED and names[at] not in THROUGH and self.tokens[at + 1] == '(':
+                self.call(at)
             elif self.crate in NUMBERS and re.match(r'\d', token) or token in NAMED:
                 self.number(at)
 
@@ -161,6 +185,30 @@ class File:
         self.put[first] = call + self.put.get(first, tokens[first])
         self.put[at] = ','
         last = next(i for i in range(end - 1, at, -1) if not is_blank(tokens[i]))
+        self.put[last] = self.put.get(last, tokens[last]) + ')'
+
+    def call(self, at):
+        """The call at `at`, with what leads to it: a path, or the receiver of a method."""
+        tokens = self.tokens
+        call = Call(self.crate, self.file, self.function, tokens[at])
+        call.again = sum((c.crate, c.file, c.function, c.callee) == (call.crate, call.file, call.function, call.callee) for c in self.calls)
+        self.calls.append(call)
+        first = at
+        while tokens[first - 1] in ('::', '.'):
+            first -= 2
+            if tokens[first] == ')':
+                depth = 1
+                while depth:
+                    first -= 1
+                    depth += {')': 1, '(': -1}.get(tokens[first], 0)
+                first -= 1
+        depth, last = 0, at
+        while True:
+            last += 1
+            depth += {'(': 1, ')': -1}.get(tokens[last], 0)
+            if depth == 0:
+                break
+        self.put[first] = f'crate::switch::from({len(self.calls)}, || ' + self.put.get(first, tokens[first])
         self.put[last] = self.put.get(last, tokens[last]) + ')'
 
     def match(self, at):
@@ -198,24 +246,24 @@ class File:
         return text.replace('#[no_mangle]', '').replace('extern "C" ', '')
 
 
-def modules(crate, folder, name, places):
+def modules(crate, folder, name, places, calls):
     """The text of a module and of those that it names."""
     path = os.path.join(folder, name)
     with open(path) as file:
-        text = File(crate, name, file.read(), places).rust()
+        text = File(crate, name, file.read(), places, calls).rust()
     return re.sub(r'(pub )?mod (\w+);', lambda m: 'pub mod %s {%s\n%s}' % (
-        m.group(2), IMPORTS, modules(crate, folder, m.group(2) + '.rt', places)), text)
+        m.group(2), IMPORTS, modules(crate, folder, m.group(2) + '.rt', places, calls)), text)
 
 
 IMPORTS = '#[allow(unused_imports)] use crate::{' + ', '.join(CRATES + ['io', 'libc']) + '};'
 
 
 def read(crates):
-    """The places in their order, and the Rust text of all crates."""
-    places, text = [], []
+    """The places and the calls in their order, and the Rust text of all crates."""
+    places, calls, text = [], [], []
     for crate in CRATES:
         folder = os.path.join(crates, crate, 'src')
         root = 'main.rt' if os.path.exists(os.path.join(folder, 'main.rt')) else 'lib.rt'
         own = IMPORTS.replace(f'{crate}, ', '', 1) if crate != 'plan' else IMPORTS.replace(', plan,', ',')
-        text.append('pub mod %s {%s\n%s}\n' % (crate, own, modules(crate, folder, root, places)))
-    return places, ''.join(text)
+        text.append('pub mod %s {%s\n%s}\n' % (crate, own, modules(crate, folder, root, places, calls)))
+    return places, calls, ''.join(text)

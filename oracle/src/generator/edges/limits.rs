@@ -1,6 +1,6 @@
 //! Limit tests of the code that no other case meets on both sides, found by oracle/limits/run.
 
-use super::{Edges, add, query, wide};
+use super::{Edges, add, block, query, wide};
 use crate::generator::encode::{grid, single};
 use crate::sheet::{Query, Sheet, Source};
 
@@ -11,9 +11,13 @@ const EIGHTH: f64 = std::f64::consts::FRAC_1_SQRT_2;
 pub fn limits(edges: &mut Edges) {
     fused(edges);
     touching(edges);
+    touching_boxes(edges);
+    touching_members(edges);
     views(edges);
     one_float(edges);
     degenerate(edges);
+    density(edges);
+    greatest_size(edges);
     empty_grid_in_a_circle(edges);
     dense_member(edges);
 }
@@ -62,12 +66,62 @@ fn touching(edges: &mut Edges) {
     }
 }
 
+/// A view that a box of 10, 20, 50, 60 touches on a side, and one that is a float away from it.
+fn views_beside() -> Vec<(String, [f64; 4])> {
+    let mut views = Vec::new();
+    for (side, edge) in [(0, 50.0), (1, 60.0), (2, 10.0), (3, 20.0)] {
+        let away: f64 = if side < 2 { f64::next_up(edge) } else { f64::next_down(edge) };
+        for (word, value) in [("at", edge), ("one float away from", away)] {
+            let mut view = [0.0, 0.0, 100.0, 100.0];
+            view[side] = value;
+            views.push((format!("view with side {side} {word}"), view));
+        }
+    }
+    views
+}
+
+/// The boxes of a root, of a cell and of a reference beside the view.
+fn touching_boxes(edges: &mut Edges) {
+    let side = Some([10.0, 20.0, 50.0, 60.0]);
+    for (word, view) in views_beside() {
+        let mut sheet = Sheet::default();
+        sheet.cell(0, side);
+        for depth in [0, 1] {
+            add(edges, format!("{word} a root, depth {depth}"), query(view, 1.0, depth), sheet.clone());
+        }
+        let mut sheet = Sheet::default();
+        let number = sheet.reference(single(Source::Cell(1), side));
+        sheet.cell(0, None).references.push(number);
+        sheet.cell(0, side);
+        add(edges, format!("{word} a reference"), query(view, 1.0, 1), sheet);
+    }
+}
+
+/// One of two members beside the view, the other in it.
+fn touching_members(edges: &mut Edges) {
+    let side = Some([10.0, 20.0, 50.0, 60.0]);
+    for (place, (word, view)) in views_beside().into_iter().enumerate() {
+        let mut sheet = Sheet::default();
+        let mut reference = grid(Source::Cell(7), side, (2, 1), [0.0, 0.0]);
+        // The other member stands towards the view.
+        reference.spacing_x = [[30.0, 0.0], [0.0, 30.0], [-30.0, 0.0], [0.0, -30.0]][place / 2];
+        let number = sheet.reference(reference);
+        sheet.cell(0, None).references.push(number);
+        add(edges, format!("{word} one of two members"), query(view, 1.0, 2), sheet);
+    }
+}
+
 /// A view whose least edge is one float above its greatest.
 fn views(edges: &mut Edges) {
     for side in [0, 1] {
         let mut view = [1.0; 4];
         view[side] = f64::next_up(1.0);
         add(edges, format!("view with side {side} one float above the other"), query(view, 1.0, 1), Sheet::default());
+        for edge in [f64::MIN, f64::MAX] {
+            let mut view = [0.0; 4];
+            (view[side], view[side + 2]) = (edge, edge);
+            add(edges, format!("view with side {side} and the other at {edge:e}"), query(view, 1.0, 1), Sheet::default());
+        }
     }
 }
 
@@ -91,6 +145,33 @@ fn degenerate(edges: &mut Edges) {
         let number = sheet.reference(single(Source::Text(text), Some([0.0, 0.0, width, height])));
         sheet.cell(0, None).references.push(number);
         add(edges, format!("source box of {width:e} x {height:e}"), wide(2), sheet);
+    }
+    // 24 x 128 px leave 16 square pixels to each of 192.
+    for units in [191, 192] {
+        add(edges, format!("source box of 0 x 128 with {units} units"), wide(3), block(units, [0.0, 128.0], (1, 1)));
+        add(edges, format!("source box of 128 x 0 with {units} units"), wide(3), block(units, [128.0, 0.0], (1, 1)));
+    }
+}
+
+/// 16 square pixels for each of 128, and the next float above.
+fn density(edges: &mut Edges) {
+    for height in [32.0, 32.0 * (1.0 + f64::from(f32::EPSILON))] {
+        add(edges, format!("reference of 128 units at exactly 64 x {height} px"), wide(3), block(128, [64.0, height], (1, 1)));
+        let mut sheet = Sheet::default();
+        let batch = sheet.batch(0, 0, 128, [0.0, 0.0, 64.0, height]);
+        sheet.cell(0, None).batches.push(batch);
+        add(edges, format!("batch of 128 at exactly 64 x {height} px"), wide(1), sheet);
+    }
+}
+
+/// A side of the greatest size in pixels that single precision has.
+fn greatest_size(edges: &mut Edges) {
+    for [width, height] in [[1.0, 0.5], [0.5, 1.0]] {
+        let mut sheet = Sheet::default();
+        let batch = sheet.batch(0, 0, 1, [0.0, 0.0, width, height]);
+        sheet.cell(0, None).batches.push(batch);
+        let query = Query { zoom: f64::from(f32::MAX), ..wide(1) };
+        add(edges, format!("batch of {width} x {height} at the greatest size"), query, sheet);
     }
 }
 

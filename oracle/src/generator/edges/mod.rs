@@ -1,5 +1,6 @@
 //! Cases made by hand: document 01's worked example, its "Readings at the edges", and places that chance seldom meets.
 
+pub mod at_limits;
 mod counts;
 mod limits;
 mod numbers;
