@@ -63,11 +63,12 @@ fn cells(sheet: &mut Sheet, letters: &str, last: u32, filling: Vec<u32>) {
     sheet.cell(0, side);
 }
 
-/// The root: what fills up to the limit, what comes next, and a text behind it.
+/// The root: what fills up to the limit, what comes next, and behind it a text, and one out of view.
 fn finish(mut sheet: Sheet, fill: Vec<u32>, letters: &str, filling: Vec<u32>, rng: &mut Rng) -> Vec<u8> {
     let next = next(&mut sheet, letters);
     let last = sheet.reference(single(Source::Text(0), Some([5.0, 5.0, 5.0, 5.0])));
-    sheet.cell(0, None).references = [fill, vec![next, last]].concat();
+    let away = sheet.reference(single(Source::Text(0), Some([2e9, 5.0, 3e9, 5.0])));
+    sheet.cell(0, None).references = [fill, vec![next, last, away]].concat();
     cells(&mut sheet, letters, last, filling);
     input(&Query { view: [-1e9, -1e9, 1e9, 1e9], ..wide(4) }, &sheet, rng)
 }

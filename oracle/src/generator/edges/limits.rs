@@ -17,6 +17,7 @@ pub fn limits(edges: &mut Edges) {
     one_float(edges);
     degenerate(edges);
     density(edges);
+    narrow_grids(edges);
     greatest_size(edges);
     empty_grid_in_a_circle(edges);
     dense_member(edges);
@@ -111,8 +112,13 @@ fn touching_members(edges: &mut Edges) {
     }
 }
 
-/// A view whose least edge is one float above its greatest.
+/// Views that are not finite on one side, or whose least edge is one float above the greatest, and views at the greatest floats.
 fn views(edges: &mut Edges) {
+    for (side, edge) in [(1, f64::NEG_INFINITY), (3, f64::INFINITY)] {
+        let mut view = [0.0, 0.0, 1.0, 1.0];
+        view[side] = edge;
+        add(edges, format!("view with side {side} at {edge}"), query(view, 1.0, 1), Sheet::default());
+    }
     for side in [0, 1] {
         let mut view = [1.0; 4];
         view[side] = f64::next_up(1.0);
@@ -161,6 +167,16 @@ fn density(edges: &mut Edges) {
         let batch = sheet.batch(0, 0, 128, [0.0, 0.0, 64.0, height]);
         sheet.cell(0, None).batches.push(batch);
         add(edges, format!("batch of 128 at exactly 64 x {height} px"), wide(1), sheet);
+    }
+}
+
+/// Two members, side by side, of which the whole is one float narrower, or lower, than 24 px: one box stands for both.
+fn narrow_grids(edges: &mut Edges) {
+    let below = f64::from(24f32.next_down());
+    for (sides, spacing, shape) in [([below, 30.0], [0.0, 100.0], (1, 2)), ([30.0, below], [100.0, 0.0], (2, 1))] {
+        let mut sheet = block(0, sides, shape);
+        (sheet.references[0].spacing_x, sheet.references[0].spacing_y) = ([spacing[0], 0.0], [0.0, spacing[1]]);
+        add(edges, format!("two members of {} x {} px", sides[0], sides[1]), wide(3), sheet);
     }
 }
 
