@@ -2,6 +2,7 @@
 //! lists and chains are made by `long`.
 
 use super::boxes::grow_true_boxes;
+use super::edges::at_limits::{after_both, after_cells, after_objects, after_proxies, after_texts};
 use super::encode::{QUARTERS, grid, input, query_bytes, single};
 use super::long;
 use super::rng::Rng;
@@ -65,6 +66,37 @@ pub const LARGE: &[Large] = &[
     large("four lists of so many numbers", 65_535, long::four_long_lists),
     large("hidden layers", 16_384, long::hidden_layers),
     large("hidden layers", 65_000, long::hidden_layers),
+    large("one short of 20,000 objects", 0, after_objects),
+    large("one short of 20,000 objects", 1, after_objects),
+    large("one short of 20,000 objects", 2, after_objects),
+    large("one short of 20,000 objects", 3, after_objects),
+    large("one short of 20,000 objects", 4, after_objects),
+    large("one short of 20,000 objects", 5, after_objects),
+    large("one short of 20,000 objects", 6, after_objects),
+    large("one short of 10,000 texts", 0, after_texts),
+    large("one short of 10,000 texts", 1, after_texts),
+    large("one short of 10,000 texts", 2, after_texts),
+    large("one short of 10,000 texts", 3, after_texts),
+    large("one short of 10,000 texts", 4, after_texts),
+    large("one short of 10,000 texts", 5, after_texts),
+    large("one short of 100,000 proxies", 0, after_proxies),
+    large("one short of 100,000 proxies", 1, after_proxies),
+    large("one short of 100,000 proxies", 2, after_proxies),
+    large("one short of 100,000 proxies", 3, after_proxies),
+    large("one short of 100,000 proxies", 4, after_proxies),
+    large("one short of 100,000 proxies", 5, after_proxies),
+    large("one short of 100,000 proxies", 6, after_proxies),
+    large("one short of 100,000 proxies", 7, after_proxies),
+    large("one short of 100,000 proxies", 8, after_proxies),
+    large("one short of objects and proxies", 0, after_both),
+    large("one short of objects and proxies", 1, after_both),
+    large("one short of objects and proxies", 2, after_both),
+    large("one short of objects and proxies", 3, after_both),
+    large("one short of objects and proxies", 4, after_both),
+    large("one short of objects and proxies", 5, after_both),
+    large("one short of objects and proxies", 6, after_both),
+    large("one short of proxies, and 20,000 cells", 0, after_cells),
+    large("one short of proxies, and 20,000 cells", 1, after_cells),
 ];
 
 const WIDE: [f64; 4] = [-1e9, -1e9, 1e9, 1e9];
