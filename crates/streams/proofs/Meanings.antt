@@ -1,4 +1,5 @@
--- What an answer of the system's means, by code path; and that bytes are moved only where there is room.
+-- What an answer of the system's means, by code path; that bytes are moved only where there is room, and that a loop which moves them
+-- ends; and where an input that was read lies.
 -- Assumes nothing.
 use mathlib.Core.Path.{_≡_, refl, sym, subst}
 use mathlib.Core.Bool.{Bool, true, false, cond}
