@@ -24,7 +24,7 @@ extern "C" {
 #define RIBALTZEN_VERSION_PATCH 0
 #define RIBALTZEN_VERSION "0.2.0"
 
-/* What scene_plan returns: 0 for a plan, else the number of the first question that was answered "no".
+/* What scene_plan returns: 0 for a plan, else the refusal's number; ribaltzen_refusal has the question answered "no".
  * ribaltzen_refusal has the questions' words. */
 enum {
     RIBALTZEN_PLANNED = 0,

@@ -29,14 +29,13 @@ fn library_folder() -> PathBuf {
 
 /// Why the archive of a folder cannot be linked.
 fn hindrance(folder: &Path) -> Option<String> {
-    let target = |name| env::var(name).unwrap_or_default();
-    let (arch, os) = (
-        target("CARGO_CFG_TARGET_ARCH"),
-        target("CARGO_CFG_TARGET_OS"),
-    );
-    if (arch.as_str(), os.as_str()) != ("x86_64", "linux") {
+    let target = |name: String| env::var(name).unwrap_or_default();
+    let built =
+        ["ARCH", "OS", "POINTER_WIDTH"].map(|name| target(format!("CARGO_CFG_TARGET_{name}")));
+    if built != ["x86_64", "linux", "64"] {
         return Some(format!(
-            "ribaltzen is built for x86-64 Linux only, not for {arch} {os}: libplanner_c.a has code for nothing else"
+            "ribaltzen is built for x86-64 Linux only, not for {}: libplanner_c.a has code for nothing else",
+            built.join(" ")
         ));
     }
     if folder.is_relative() {

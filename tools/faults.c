@@ -3,10 +3,10 @@
  *   FAULT_CALL     read or write
  *   FAULT_FIRST, FAULT_LAST
  *                  the first and the last of these calls that fails, counted from 1
- *   FAULT_ERROR    the number that errno gets
+ *   FAULT_ERROR    the number that errno gets (EIO where it is not set)
  *   FAULT_BYTES    the most bytes that a call moves
  *
- * What is not set is left alone.
+ * Without FAULT_CALL or FAULT_LAST no call fails, without FAULT_BYTES none is cut short.
  */
 #define _GNU_SOURCE
 #include <dlfcn.h>

@@ -1,4 +1,4 @@
-//! A refusal: the number of the first question that was answered "no", and where.
+//! A refusal: its number, the question that was answered "no", and where.
 
 use std::error::Error;
 use std::fmt;
@@ -53,7 +53,7 @@ impl fmt::Display for Refusal {
         }
         write!(f, ": {} No", self.question())?;
         if let Some(needed) = self.needed {
-            write!(f, ", it has {needed} bytes")?;
+            write!(f, ", the tape has {needed} bytes")?;
         }
         f.write_str(".")
     }

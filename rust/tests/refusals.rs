@@ -139,7 +139,7 @@ fn a_refusal_says_what_was_asked() {
     );
     assert_eq!(
         refusal(12, 0, Some(80)).to_string(),
-        "refused with number 12: Does the whole tape fit the lent output? No, it has 80 bytes."
+        "refused with number 12: Does the whole tape fit the lent output? No, the tape has 80 bytes."
     );
     for number in 1..=12 {
         let question = refusal(number, 0, None).question();

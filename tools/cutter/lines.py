@@ -56,7 +56,7 @@ def named(words):
     found = {}
     for name, written in words:
         if written is None:
-            raise Fault('"%s" has no value: a word is name=value' % name)
+            raise Fault('"%s" has no value: a word is name=value, and a value with blanks stands in quotes' % name)
         if name in found:
             raise Fault("%s stands twice" % name)
         found[name] = written

@@ -79,7 +79,7 @@ def read(description):
         except Fault as fault:
             raise Fault(str(fault), line)
         if kind == "query":
-            queries.append(record)
+            queries.append((record, line))
         else:
             order.append((kind, len(records[kind])))
             records[kind].append(record)
@@ -107,6 +107,15 @@ def check_lists(records, cell):
             check_number(records, name, kind, item)
 
 
+def check_root(asked, line, records):
+    """Of a root that is not there the plan is empty, whatever the sheet holds. A sheet without cells has no other plan."""
+    try:
+        if records["cell"]:
+            check_number(records, "root", "cell", asked["root"])
+    except Fault as fault:
+        raise Fault(str(fault), line)
+
+
 def check_numbers(records, places):
     """Every number names a record that is there, and a reference places an earlier one. A missing cell may be placed."""
     for kind in ("reference", "cell"):
@@ -127,7 +136,8 @@ def direct_draw_units(records, record):
 
 def cut(description):
     """The bytes of the query and of the sheet that a description describes."""
-    asked, records, places, order = read(description)
+    (asked, line), records, places, order = read(description)
+    check_root(asked, line, records)
     check_numbers(records, places)
     boxes.compute(records, places)
     for record in records["cell"]:

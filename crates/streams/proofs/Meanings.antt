@@ -16,8 +16,8 @@ use Rattle.io.specs.Counts.{clamped}
 use Rattle.streams.specs.declared.moved.Moved.{Moved}
 use Rattle.streams.specs.declared.moved.Moved.the-variants.{Bytes, Nothing, Interrupted, Failed}
 use Rattle.streams.specs.declared.input.Input.{Input}
-use Rattle.streams.specs.declared.input.Input.the-variants.{Whole, Unreadable}
-use Rattle.streams.specs.Moving.{unmovedOf, movedOf, Moves, Within}
+use Rattle.streams.specs.declared.input.Input.the-variants.{Whole}
+use Rattle.streams.specs.Moving.{unmovedOf, movedOf, Moves, inputOf, Within}
 
 module _ (got error : ℤ) (most : ℕ) {count : ℕ} (counted : count ≡ clamped got most) where
   pub moved-bytes : (count ≡ 0 → ⊥) → Bytes count ≡ movedOf got error most
@@ -70,8 +70,14 @@ fewer done size tries n {room} same h is = let s : (0 < n) × (done + n ≤ room
 pub stays-within : {m : Moved} (done size n : ℕ) → Moves done size m → m ≡ Bytes n → done + n ≤ size
 stays-within done size n h is = let s : (0 < n) × (done + n ≤ size) = subst (Moves done size) is h in s .1
 
-pub unreadable-within : {r : Input} (buffer : List ℕ) → r ≡ Unreadable → Within r buffer
-unreadable-within {r} buffer is = subst (λ (x : Input). Within x buffer) (sym is) tt
+pub input-within : {r : Input} (last : Moved) (done : ℕ) (buffer : List ℕ) → done < length buffer → r ≡ inputOf last done → Within r buffer
+input-within {r} last done buffer room is = subst (λ (x : Input). Within x buffer) (sym is) (by last)
+  where
+    by : (m : Moved) → Within (inputOf m done) buffer
+    by Nothing = room
+    by (Bytes n) = tt
+    by Interrupted = tt
+    by Failed = tt
 
 pub whole-within : {r : Input} {size : ℕ} (buffer : List ℕ) → Within r buffer → r ≡ Whole size → size ≤ length buffer
 whole-within {r} {size} buffer within is = let h : size < length buffer = subst (λ (x : Input). Within x buffer) is within in omega (arith, h)

@@ -29,6 +29,13 @@ Moves done size Nothing = Unit {0}
 Moves done size Interrupted = Unit {0}
 Moves done size Failed = Unit {0}
 
+-- the input after so many bytes, by the answer that ended its reading: only the end makes it whole
+abbrev pub inputOf : Moved → ℕ → Input
+inputOf Nothing done = Whole done
+inputOf (Bytes n) done = Unreadable
+inputOf Interrupted done = Unreadable
+inputOf Failed done = Unreadable
+
 -- a whole input lies within the buffer, and leaves room: its end was seen
 abbrev pub Within : Input → List ℕ → Type 0
 Within (Whole size) buffer = size < length buffer

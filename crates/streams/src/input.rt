@@ -5,7 +5,7 @@ use crate::moved::meaning;
 ghost use mathlib.Core.Path.{_≡_};
 ghost use Prim.Native.Nat.{_<_};
 ghost use lib.ListN.{length, take};
-ghost use Rattle.streams.specs.Moving.{Moves, Within};
+ghost use Rattle.streams.specs.Moving.{Moves, inputOf, Within};
 ghost use Rattle.streams.specs.declared.input.Input.the-variants.{Unreadable};
 
 // What reading came to. Only `Whole` is an input to answer.
@@ -34,6 +34,18 @@ fn unreadable() -> Input
     Input::Unreadable
 }
 
+// The input, by the answer that ended its reading: only the end makes it whole.
+fn input_of(last: Moved, done: usize) -> Input
+    ensures { λ r. ⌜ r ≡ inputOf last done ⌝ }
+{
+    match last {
+        Moved::Nothing => Input::Whole(done),
+        Moved::Bytes(_) => unreadable(),
+        Moved::Interrupted => unreadable(),
+        Moved::Failed => unreadable(),
+    }
+}
+
 // Reads until the input ends, the buffer is full or a read fails. An interrupted read is tried again.
 pub fn read_to_end(fd: i32, buffer: &mut [u8]) -> Input
     ensures { λ r. ⌜ Within r (now (buffer .exit)) ⌝ }
@@ -41,21 +53,19 @@ pub fn read_to_end(fd: i32, buffer: &mut [u8]) -> Input
     let mut done = 0;
     let mut tries = TRIES;
     while done < buffer.len() {
-        match read_behind(fd, buffer, done) {
+        let last = read_behind(fd, buffer, done);
+        match last {
             Moved::Bytes(count) => {
                 done += count;
             }
-            Moved::Nothing => {
-                return Input::Whole(done);
-            }
             Moved::Interrupted => {
                 if tries == 0 {
-                    return unreadable();
+                    return input_of(last, done);
                 }
                 tries -= 1;
             }
-            Moved::Failed => {
-                return unreadable();
+            _ => {
+                return input_of(last, done);
             }
         }
     }

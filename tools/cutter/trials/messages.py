@@ -19,7 +19,7 @@ MESSAGES = [
     ("reference source=cell:0 at=0,0 magnification=2", 2, 'unknown word "magnification"; a reference has ' + REFERENCE_WORDS),
     ("reference source=cell:0 at=0,0 bx=0,0,1,1", 2, 'unknown word "bx"; a reference has ' + REFERENCE_WORDS),
     ("cell units=1 units=1", 2, "units stands twice"),
-    ("cell units", 2, '"units" has no value: a word is name=value'),
+    ("cell units", 2, '"units" has no value: a word is name=value, and a value with blanks stands in quotes'),
     ("batch layer=1 type=0", 2, "a batch needs elements, box"),
     ("text layer=1 type=0", 2, "a text needs at"),
     ("reference source=cell:0", 2, "a reference needs at"),
@@ -73,6 +73,9 @@ def try_descriptions(work):
     for hidden, what in (("1", "hidden layers are LAYER/TYPE, parted by commas"), ("1/x", '"x" is no whole number from 0 to 65535')):
         faulty = "query root=0 depth=1 view=0,0,9,9 zoom=1 hidden=%s" % hidden
         same(faulty, ran("-", input=faulty.encode()), (2, b"", "standard input:1: hidden: %s\n" % what))
+    lost = "cell\nquery root=1 depth=1 view=0,0,9,9 zoom=1"
+    same("a root that is not there", ran("-", input=lost.encode()),
+         (2, b"", "standard input:2: root: there is no cell 1; 1 described, counted from 0\n"))
     missing = "the query is missing: query root=NUMBER depth=NUMBER view=MIN X,MIN Y,MAX X,MAX Y zoom=NUMBER"
     same("no query", ran("-", input=b"cell\n"), (2, b"", "standard input: %s\n" % missing))
 

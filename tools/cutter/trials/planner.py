@@ -64,6 +64,11 @@ ROOT_1 = "root=1 depth=8 view=0,0,9,9 zoom=1"
 FACTS = [
     ("a reference without a source box", ROOT_1, TEXT + "cell texts=0\nreference source=cell:0 at=0,0 box=none\ncell references=0",
      "totals 1 0 0 0 0 0"),
+    ("a cell of 40 by 40 pixels", "root=1 depth=8 view=0,0,99,99 zoom=1",
+     SHAPE % (40, 40) + "cell batches=0\nreference source=cell:0 at=0,0\ncell references=0", "batch 0, totals 2 1 0 0 0 0"),
+    ("the same with 200 draw units that have no box", "root=1 depth=8 view=0,0,99,99 zoom=1",
+     SHAPE % (40, 40) + "reference source=cell:9 at=0,0 columns=20 rows=10\ncell batches=0 references=0\n"
+     "reference source=cell:0 at=0,0\ncell references=1", "proxy 0, totals 1 0 0 0 0 0"),
     ("a reference to a cell without a box", ROOT_1, TEXT + "cell box=none texts=0\nreference source=cell:0 at=0,0\ncell references=0",
      "totals 1 0 0 0 0 0"),
     ("the same with a source box by hand", ROOT_1,

@@ -10,7 +10,7 @@ def try_bytes():
     found = cut(
         "cell box=-1,-2,3,4 units=7 references=0 nodes=0 texts=0 batches=0,0\n"
         "reference rows=3 columns=2 source=cell:9 at=1,2 dx=3,4 dy=5,6 reflect=1 mag=2 cos=0.6 sin=0.8 box=0,0,1,2\n"
-        "node layer=1 type=2 points=3,4;-5,6e1\ntext layer=3 type=4 at=5,6 value=Ä\nbatch layer=5 type=6 elements=7 box=8,9,10,11\n"
+        "node layer=1 type=2 points=3,4;-5,6e1\ntext layer=3 type=4 at=5,6 value=Ä\nbatch layer=5 type=6 elements=7 box=8,9,10,11\ncell\n"
         "query root=1 depth=2 view=3,4,5,6 zoom=.5 hidden=7/8,65535/0\n")
     expected = [
         (20, struct.pack("<II5d2I", 1, 2, 3, 4, 5, 6, 0.5, 7 * 65536 + 8, 65535 * 65536)),
@@ -19,6 +19,7 @@ def try_bytes():
         (3, struct.pack("<HH4d", 1, 2, 3, 4, -5, 60)),
         (2, struct.pack("<HH2d", 3, 4, 5, 6) + b"\xc3\x84"),
         (1, struct.pack("<HHI4d", 5, 6, 7, 8, 9, 10, 11)),
+        (5, struct.pack("<HQ4d4H", 0, 0, 0, 0, 0, 0, 0, 0, 0, 0)),
     ]
     same("every word", found, b"".join(struct.pack("<IH", len(body) + 6, kind) + body for kind, body in expected))
     least = records(cut(QUERY + "reference source=cell:9 at=1,2\ncell\n"))

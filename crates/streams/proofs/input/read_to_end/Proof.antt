@@ -6,7 +6,7 @@ use Prim.Native.Nat.{_+_, _-_}
 use native.Mathlib.Omega.{arith}
 use lib.ListN.{length}
 use borrow.Author.Needs.{needs}
-use Rattle.streams.proofs.Meanings.{fewer, stays-within, unreadable-within}
+use Rattle.streams.proofs.Meanings.{fewer, stays-within, input-within}
 use Rattle.streams.proofs.input.read_to_end.Statement.{statement}
 use Rattle.streams.proofs.input.read_to_end.Tie as tie
 
@@ -19,12 +19,12 @@ abbrev μ-loop : tie.MeasureT-loop
 add-done : tie.Need-add-done Inv-loop μ-loop
 add-done c =
     let behind = c .before .before .before .before .before .read-behind in
-    record { fits = omega (arith, stays-within _ _ _ (behind .ensures .0) (c .before .count .given .1), behind .kept .1 .0, c .before .before .before .before .before .before .before .before .loop .inv) }
+    record { fits = omega (arith, stays-within _ _ _ (behind .ensures .0) (c .before .last .given .1), behind .kept .1 .0, c .before .before .before .before .before .before .before .before .loop .inv) }
 
 loop-less : tie.Need-loop-less Inv-loop μ-loop
 loop-less c =
     let behind = c .before .before .before .before .before .read-behind in
-    fewer _ _ _ _ (behind .kept .1 .0 ∙ c .before .before .before .before .before .before .before .before .loop .inv) (behind .ensures .0) (c .before .count .given .1)
+    fewer _ _ _ _ (behind .kept .1 .0 ∙ c .before .before .before .before .before .before .before .before .loop .inv) (behind .ensures .0) (c .before .last .given .1)
 
 loop-again : tie.Need-loop-again Inv-loop μ-loop
 loop-again c = c .before .before .before .before .before .read-behind .kept .1 .0 ∙ c .before .before .before .before .before .before .before .before .loop .inv
@@ -32,15 +32,18 @@ loop-again c = c .before .before .before .before .before .read-behind .kept .1 .
 loop-again-2 : tie.Need-loop-again-2 Inv-loop μ-loop
 loop-again-2 c = c .before .before .before .before .before .read-behind .kept .1 .0 ∙ c .before .before .before .before .before .before .before .before .loop .inv
 
-unreadable : tie.Need-returns-2 Inv-loop μ-loop
-unreadable c = unreadable-within _ (c .unreadable .ensures)
+interrupted : tie.Need-returns Inv-loop μ-loop
+interrupted c =
+    let behind = c .before .before .before .before .before .before .read-behind in
+    input-within (behind .result) (c .before .before .before .before .before .before .before .before .before .loop .done) (behind .last .1 .0) (omega (arith, behind .kept .1 .0)) (c .input-of .ensures)
 
-unreadable-2 : tie.Need-returns-3 Inv-loop μ-loop
-unreadable-2 c = unreadable-within _ (c .unreadable2 .ensures)
+ended : tie.Need-returns-2 Inv-loop μ-loop
+ended c =
+    let behind = c .before .before .before .before .read-behind in
+    input-within (behind .result) (c .before .before .before .before .before .before .before .loop .done) (behind .last .1 .0) (omega (arith, behind .kept .1 .0)) (c .input-of2 .ensures)
 
 pub read-to-end-spec : {M : Type 1} → statement M
 read-to-end-spec =
     tie.close
-    (tie.spec Inv-loop μ-loop (λ c. refl) (λ c κs. omega arith) (λ c. search needs) add-done loop-less loop-again (λ c. search needs) (λ c. search needs) (λ c. search needs)
-    (λ c. search needs) (λ c κs. search needs) (λ c. search needs) unreadable (λ c. omega arith) (λ c. omega arith) loop-again-2 (λ c. search needs) (λ c κs. search needs) (λ c. search needs) unreadable-2
-    (λ c. search needs) (λ c. search needs))
+    (tie.spec Inv-loop μ-loop (λ c. refl) (λ c κs. omega arith) (λ c. search needs) add-done loop-less loop-again (λ c. search needs) (λ c κs. search needs) (λ c. search needs) interrupted
+    (λ c. omega arith) (λ c. omega arith) loop-again-2 (λ c κs. search needs) (λ c. search needs) ended (λ c. search needs) (λ c. search needs))

@@ -1,4 +1,4 @@
--- `streams::output::print` meets its contract: what follows a failed write is not written.
+-- `streams::output::print` meets its contract: it answers true only where all before it was written.
 -- Assumes nothing.
 use mathlib.Core.Path.{_≡_, refl}
 use mathlib.Core.Bool.{Bool, true, false, not, true≢false, false≢true}
