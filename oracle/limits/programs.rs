@@ -1,4 +1,4 @@
-//! Inputs for the program `plan` at the limits of what it lends itself, with the text that each must print.
+//! Runs of the program `plan`: inputs at the limits of what it lends itself, and reads and writes that go wrong.
 
 /// A query for all of the worked example, with so many hidden layers, none of which the sheet has.
 fn query(hidden: usize) -> Vec<u8> {
@@ -17,28 +17,21 @@ fn head(length: usize, kind: u16) -> Vec<u8> {
     [&(length as u32).to_le_bytes()[..], &kind.to_le_bytes()].concat()
 }
 
-fn floats_of(floats: &[f64]) -> Vec<u8> {
-    floats.iter().flat_map(|float| float.to_bits().to_le_bytes()).collect()
-}
-
+/// A text on layer 1 at (10, 20), its value so many bytes.
 fn text(value: usize) -> Vec<u8> {
-    [head(26 + value, 2), vec![1, 0, 0, 0], floats_of(&[10.0, 20.0]), vec![0; value]].concat()
+    let position = [10.0f64, 20.0].map(|float| float.to_bits().to_le_bytes()).concat();
+    [head(26 + value, 2), vec![1, 0, 0, 0], position, vec![0; value]].concat()
 }
 
-fn batch(elements: u32) -> Vec<u8> {
-    [head(46, 1), vec![1, 0, 0, 0], elements.to_le_bytes().to_vec(), floats_of(&[0.0, 0.0, 32.0, 32.0])].concat()
-}
-
-/// A cell without a box that lists batches and texts.
-fn cell(batches: &[u32], texts: &[u32]) -> Vec<u8> {
-    let numbers: Vec<u8> = batches.iter().chain(texts).flat_map(|number| number.to_le_bytes()).collect();
-    let counts = [(batches.len() as u16).to_le_bytes(), (texts.len() as u16).to_le_bytes(), [0; 2], [0; 2]].concat();
-    [head(56 + numbers.len(), 5), vec![0; 42], counts, numbers].concat()
+/// A sheet with a text, and a cell without a box that lists it.
+fn sheet() -> Vec<u8> {
+    let counts = [0u16, 1, 0, 0].map(u16::to_le_bytes).concat();
+    [text(0), head(60, 5), vec![0; 42], counts, vec![0; 4]].concat()
 }
 
 /// An input of so many bytes: one text that is listed, and texts that are not.
 fn of_length(length: usize) -> Vec<u8> {
-    let mut bytes = [query(0), text(0), cell(&[], &[0])].concat();
+    let mut bytes = [query(0), sheet()].concat();
     while bytes.len() < length {
         let left = length - bytes.len();
         bytes.extend(text(if left <= 538 { left - 26 } else { (left - 52).min(512) }));
@@ -46,49 +39,86 @@ fn of_length(length: usize) -> Vec<u8> {
     bytes
 }
 
-/// An input whose tape has 54 bytes, 58 for each batch, 26 for each text and 42 for each dense batch.
-fn of_tape(batches: usize, texts: usize, dense: usize) -> Vec<u8> {
-    let numbers = [vec![0; batches], vec![1; dense]].concat();
-    [query(0), batch(1), batch(128), text(0), cell(&numbers, &vec![0; texts])].concat()
+const WORKED: &str = "text 0 4024000000000000 4034000000000000\ntotals 1 1 0 0 0 0\n";
+const INTERRUPTED: i32 = 4;
+
+/// A run: what it shows, the input, how reads and writes go wrong, and the checksum of the text that is printed.
+struct Program {
+    name: String,
+    input: Vec<u8>,
+    reads: Faults,
+    writes: Faults,
+    text: u64,
 }
 
-const WORKED: &str = "text 0 4024000000000000 4034000000000000\ntotals 1 1 0 0 0 0\n";
+impl Program {
+    fn new(name: &str, input: Vec<u8>, text: u64) -> Program {
+        Program { name: name.to_string(), input, reads: NO_FAULTS, writes: NO_FAULTS, text }
+    }
 
-/// What each input shows, the input, and how the text that it must print begins.
-fn programs() -> Vec<(&'static str, Vec<u8>, &'static str)> {
-    let layers = |count: usize| [query(count), text(0), cell(&[], &[0])].concat();
-    vec![
-        ("an input of 3,145,728 bytes", of_length(3_145_728), WORKED),
-        ("an input of 3,145,729 bytes", of_length(3_145_729), "too long\n"),
+    fn printed(&self) -> Vec<u8> {
+        system::printed(self.input.clone(), self.reads, self.writes, plan::main)
+    }
+}
+
+/// At the limits of the buffers for the input and the hidden layers.
+fn at_buffers() -> Vec<Program> {
+    let layers = |count: usize| [query(count), sheet()].concat();
+    let cases = [
+        ("an input of 1,310,720 bytes", of_length(1_310_720), WORKED),
+        ("an input of 1,310,721 bytes", of_length(1_310_721), "too long\n"),
         ("16,384 hidden layers", layers(16_384), WORKED),
         ("16,385 hidden layers", layers(16_385), "too long\n"),
-        ("a tape of 2,621,440 bytes", of_tape(19_984, 0, 34_817), "batch 0 "),
-        ("a tape of 2,621,442 bytes", of_tape(19_992, 0, 34_806), "refused 12 0\n"),
-    ]
+    ];
+    cases.map(|(name, input, text)| Program::new(name, input, fnv1a(text.as_bytes()))).into()
 }
 
-fn write_programs(folder: &str) {
-    for (place, (name, input, expected)) in programs().into_iter().enumerate() {
-        fs::write(format!("{folder}/{place}.input"), input).unwrap();
-        fs::write(format!("{folder}/{place}.name"), name).unwrap();
-        fs::write(format!("{folder}/{place}.begins"), expected).unwrap();
+/// Large cases that need all of the scratch, and all of the tape.
+fn at_lent(large: &[Large]) -> Vec<Program> {
+    let cases = [
+        ("large case cells, 4096: all of the scratch", "cells", 4_096),
+        ("large case one short of objects and proxies, 0: all of the tape", "one short of objects and proxies", 0),
+    ];
+    cases.map(|(shown, name, value)| {
+        let case = large.iter().find(|case| case.name == name && case.value == value).unwrap();
+        Program::new(shown, case.input(), case.text)
+    }).into()
+}
+
+/// Reads and writes that fail, are interrupted as often as a call is tried again, or move one byte each.
+fn with_faults() -> Vec<Program> {
+    let failing = |last: u32, error: i32| Faults { first: 1, last, error, most: usize::MAX };
+    let by_bytes = Faults { most: 1, ..NO_FAULTS };
+    let cases = [
+        ("reads of one byte", by_bytes, NO_FAULTS, WORKED),
+        ("a read that fails with error 3", failing(1, INTERRUPTED - 1), NO_FAULTS, "unreadable\n"),
+        ("a read that fails with error 5", failing(1, INTERRUPTED + 1), NO_FAULTS, "unreadable\n"),
+        ("1,000,000 interrupted reads", failing(1_000_000, INTERRUPTED), NO_FAULTS, WORKED),
+        ("1,000,001 interrupted reads", failing(1_000_001, INTERRUPTED), NO_FAULTS, "unreadable\n"),
+        ("writes of one byte", NO_FAULTS, by_bytes, WORKED),
+        ("a write that fails with error 3", NO_FAULTS, failing(1, INTERRUPTED - 1), ""),
+        ("a write that fails with error 5", NO_FAULTS, failing(1, INTERRUPTED + 1), ""),
+        ("1,000,000 interrupted writes", NO_FAULTS, failing(1_000_000, INTERRUPTED), WORKED),
+        ("1,000,001 interrupted writes", NO_FAULTS, failing(1_000_001, INTERRUPTED), ""),
+    ];
+    cases.map(|(name, reads, writes, text)| {
+        let program = Program::new(name, [query(0), sheet()].concat(), fnv1a(text.as_bytes()));
+        Program { reads, writes, ..program }
+    }).into()
+}
+
+/// Writes what a built program is to be run on: the inputs without faults, and the texts of the unchanged code.
+fn write_programs(large: &[Large], folder: &str) {
+    for (place, program) in at_buffers().iter().chain(&at_lent(large)).enumerate() {
+        let text = program.printed();
+        assert!(fnv1a(&text) == program.text, "{}: the unchanged code does not pass", program.name);
+        fs::write(format!("{folder}/{place}.input"), &program.input).unwrap();
+        fs::write(format!("{folder}/{place}.name"), &program.name).unwrap();
+        fs::write(format!("{folder}/{place}.text"), text).unwrap();
     }
 }
 
-fn printed(input: Vec<u8>) -> Vec<u8> {
-    io::INPUT.set(input);
-    io::OUTPUT.take();
-    plan::main();
-    io::OUTPUT.take()
-}
-
-fn run_programs(large: &str) -> Option<String> {
-    for (name, input, expected) in programs() {
-        if sees(|| printed(input).starts_with(expected.as_bytes())) {
-            return Some(name.to_string());
-        }
-    }
-    // 4,096 cells at depth 32 need all of the scratch.
-    let cells = fs::read(format!("{large}/25")).unwrap();
-    sees(|| printed(cells).starts_with(b"text 0 ")).then(|| "large case 25, 4,096 cells".to_string())
+fn run_programs(programs: Vec<Program>) -> Option<String> {
+    let seen = programs.into_iter().find(|program| sees(|| fnv1a(&program.printed()) == program.text));
+    seen.map(|program| program.name)
 }

@@ -4,14 +4,15 @@
 //!     trial REPOSITORY LARGE CHANGE CALL [quick]
 //!         LARGE: the folder of the large cases' inputs; CALL: the call for which the change is made, 0 for every one;
 //!         quick: without the large cases
-//!     trial inputs FOLDER
-//!         writes the inputs for `plan` to a folder, and of each what it shows and how its answer begins
+//!     trial REPOSITORY LARGE inputs FOLDER
+//!         writes the inputs for the built `plan` to a folder, and of each what it shows and the text that it must print
 //!
 //! A fault in a case (an overflow, a place outside of a slice) is seen. What takes long comes last.
 
 use std::fs;
 use std::panic::{AssertUnwindSafe, catch_unwind};
 use std::sync::atomic::Ordering::Relaxed;
+use system::{Faults, NO_FAULTS};
 
 /// What is lent where it is to suffice.
 const TAPE: usize = 5_360_054;
@@ -37,9 +38,9 @@ impl Room {
     fn text_of(&mut self, input: &[u8]) -> Vec<u8> {
         let Room { hidden, tape, counts, marks, text } = self;
         let printed = plan_answer::answer(input, hidden, tape, counts, marks);
-        io::OUTPUT.take();
-        plan_answer::print_answer(text, printed, tape);
-        io::OUTPUT.take()
+        system::printed(Vec::new(), NO_FAULTS, NO_FAULTS, || {
+            plan_answer::print_answer(true, text, printed, tape);
+        })
     }
 }
 
@@ -219,38 +220,52 @@ fn fnv1a(bytes: &[u8]) -> u64 {
     bytes.iter().fold(0xcbf2_9ce4_8422_2325, |sum, byte| (sum ^ u64::from(*byte)).wrapping_mul(0x100_0000_01b3))
 }
 
-/// The large cases, by the checksums of their texts; but for the two largest cities, for time.
-fn run_large(repository: &str, folder: &str, room: &mut Room) -> Option<String> {
-    let lines = fs::read_to_string(format!("{repository}/oracle/stored/large.txt")).unwrap();
-    for line in lines.lines() {
-        let words: Vec<&str> = line.split('\t').collect();
-        if words[1] == "city" && words[2].len() > 3 {
-            continue;
-        }
-        let input = fs::read(format!("{folder}/{}", words[0])).unwrap();
-        let expected = u64::from_str_radix(words[6], 16).unwrap();
-        if sees(|| fnv1a(&room.text_of(&input)) == expected) {
-            return Some(format!("{} {}, {}", words[0], words[1], words[2]));
-        }
+struct Large {
+    name: String,
+    value: usize,
+    file: String,
+    text: u64, // the checksum of its text
+}
+
+impl Large {
+    fn input(&self) -> Vec<u8> {
+        fs::read(&self.file).unwrap()
     }
-    None
+}
+
+fn large_cases(repository: &str, folder: &str) -> Vec<Large> {
+    let lines = fs::read_to_string(format!("{repository}/oracle/stored/large.txt")).unwrap();
+    lines.lines().map(|line| {
+        let words: Vec<&str> = line.split('\t').collect();
+        let (file, text) = (format!("{folder}/{}", words[0]), u64::from_str_radix(words[6], 16).unwrap());
+        Large { name: words[1].to_string(), value: words[2].parse().unwrap(), file, text }
+    }).collect()
+}
+
+/// The large cases, but for the three largest cities, for time.
+fn run_large(cases: &[Large], room: &mut Room) -> Option<String> {
+    let mut tried = cases.iter().filter(|case| case.name != "city" || case.value < 1_000);
+    let seen = tried.find(|case| sees(|| fnv1a(&room.text_of(&case.input())) == case.text));
+    seen.map(|case| format!("{}, {}", case.name, case.value))
 }
 
 /// The kinds of runs in their order, and what the first that sees the change says.
-fn seen(repository: &str, large: &str, change: u32, quick: bool) -> Option<(&'static str, String)> {
-    let (cases, mut room) = (small_cases(repository), Room::new());
+fn seen(repository: &str, folder: &str, change: u32, quick: bool) -> Option<(&'static str, String)> {
+    let (cases, large, mut room) = (small_cases(repository), large_cases(repository, folder), Room::new());
     run_small(&cases, &mut room).map(|case| ("small", case))
         .or_else(|| run_sheets(repository).map(|case| ("sheets", case)))
         .or_else(|| run_floats(repository).map(|case| ("floats", case)))
         .or_else(|| run_lent(&cases, change).map(|case| ("lent", case)))
-        .or_else(|| run_programs(large).map(|case| ("program", case)))
-        .or_else(|| if quick { None } else { run_large(repository, large, &mut room).map(|case| ("large", case)) })
+        .or_else(|| run_programs(with_faults()).map(|case| ("program", case)))
+        .or_else(|| run_programs(at_buffers()).map(|case| ("program", case)))
+        .or_else(|| if quick { None } else { run_large(&large, &mut room).map(|case| ("large", case)) })
+        .or_else(|| run_programs(at_lent(&large)).map(|case| ("program", case)))
 }
 
 fn main() {
     let words: Vec<String> = std::env::args().collect();
-    if words[1] == "inputs" {
-        return write_programs(&words[2]);
+    if words[3] == "inputs" {
+        return write_programs(&large_cases(&words[1], &words[2]), &words[4]);
     }
     std::panic::set_hook(Box::new(|_| {}));
     let run = move || {

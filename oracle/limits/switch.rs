@@ -75,7 +75,7 @@ pub mod switch {
         fn before(self) -> Self;
     }
 
-    integer!(u8 u16 u32 u64 usize i32);
+    integer!(u8 u16 u32 u64 usize i32 isize);
     float!(f32 f64);
 
     macro_rules! comparison {
@@ -107,31 +107,4 @@ pub mod switch {
             _ => n,
         }
     }
-}
-
-/// Standard input and output of a translated program, as bytes of this thread.
-pub mod io {
-    use std::cell::RefCell;
-
-    thread_local! {
-        pub static INPUT: RefCell<Vec<u8>> = const { RefCell::new(Vec::new()) };
-        pub static OUTPUT: RefCell<Vec<u8>> = const { RefCell::new(Vec::new()) };
-    }
-
-    pub fn read_full(_: i32, buffer: &mut [u8]) -> usize {
-        INPUT.with_borrow(|input| {
-            let size = input.len().min(buffer.len());
-            buffer[..size].copy_from_slice(&input[..size]);
-            size
-        })
-    }
-
-    pub fn write_all(_: i32, bytes: &[u8]) {
-        OUTPUT.with_borrow_mut(|output| output.extend(bytes));
-    }
-}
-
-pub mod libc {
-    pub const STDIN_FILENO: i32 = 0;
-    pub const STDOUT_FILENO: i32 = 1;
 }

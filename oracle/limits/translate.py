@@ -9,13 +9,16 @@ import os, re
 # The crates of the planner, of `check_sheet` and of the program `plan`, with the lowest first.
 CRATES = """floats rounding fused fields geometry grid screen walk look_up records check_record check_sheet plan_rules limits
 scratch check_query tape events pushes units visit_items enter_cell open_reference try_member visits planner planner_c
-check_sheet_c plan_query plan_text plan_answer plan""".split()
+check_sheet_c plan_query plan_text streams plan_answer plan""".split()
+SYSTEM = ['io', 'libc', 'os']  # what they call of the system: system.rs has stand-ins
 
 # Where numbers outside of comparisons are changed too: exponents, shifts and masks, the places of the scratch, and what `plan` lends.
 NUMBERS = {'floats', 'rounding', 'fused', 'scratch', 'plan'}
 # Named numbers that are changed where they stand outside of comparisons: an answer that is a limit, sizes in pixels, records' lengths.
 NAMED = {'MAX_TOTAL', 'MIN_FIXED_CONTENT_PX', 'REF_LOAD_MIN_AVG_INSTANCE_AREA_PX', 'MIN_AVERAGE_ELEMENT_AREA_PX',
          'BATCH_SIZE', 'TEXT_SIZE', 'POINT_SIZE', 'PROXY_SIZE', 'TOTALS_SIZE'}
+# A named number that a loop counts down from.
+STARTS = {'TRIES'}
 
 # Functions with limit tests that are called from several places: their tests are changed for one call at a time, too, since
 # compiled code has a copy of the test at each.
@@ -169,7 +172,7 @@ class File:
                 self.match(at)
             elif token in CALLED and names[at] not in THROUGH and self.tokens[at + 1] == '(':
                 self.call(at)
-            elif self.crate in NUMBERS and re.match(r'\d', token) or token in NAMED:
+            elif self.crate in NUMBERS and re.match(r'\d', token) or token in NAMED | STARTS:
                 self.number(at)
 
     def comparison(self, at):
@@ -228,9 +231,9 @@ class File:
         before = next(t for t in reversed(tokens[:at]) if not is_blank(t))
         if at in self.patterns or '.' in tokens[at] or re.fullmatch(r'0(u\d+)?', tokens[at]):
             return  # a pattern, a float or a zero: no limit
-        if before in ('=', '+=', '-=') or at in self.compared and before not in ('<<', '>>', '&'):
+        if before in ('=', '+=', '-=') and tokens[at] not in STARTS or at in self.compared and before not in ('<<', '>>', '&'):
             return  # a start or a step of a loop, or changed with the comparison
-        line_start = max(i for i in range(at) if tokens[i] in ';{}')
+        line_start = max(i for i in range(at) if tokens[i] in ';{}' and tokens[i - 2] != '[')  # not in `[0; n]`
         line_end = next(i for i in range(at, len(tokens)) if tokens[i] in ';{}')
         line = text_between(tokens, line_start + 1, line_end)
         number = self.place(f'{tokens[at]} in {line}', [stepped(tokens[at], 1), stepped(tokens[at], -1)])
@@ -255,7 +258,7 @@ def modules(crate, folder, name, places, calls):
         m.group(2), IMPORTS, modules(crate, folder, m.group(2) + '.rt', places, calls)), text)
 
 
-IMPORTS = '#[allow(unused_imports)] use crate::{' + ', '.join(CRATES + ['io', 'libc']) + '};'
+IMPORTS = '#[allow(unused_imports)] use crate::{' + ', '.join(CRATES + SYSTEM) + '};'
 
 
 def read(crates):
