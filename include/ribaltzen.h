@@ -24,8 +24,7 @@ extern "C" {
 #define RIBALTZEN_VERSION_PATCH 0
 #define RIBALTZEN_VERSION "0.2.0"
 
-/* What scene_plan returns: 0 for a plan, else the refusal's number; ribaltzen_refusal has the question answered "no".
- * ribaltzen_refusal has the questions' words. */
+/* What scene_plan returns: 0 for a plan, else the refusal's number. ribaltzen_refusal has the question answered "no". */
 enum {
     RIBALTZEN_PLANNED = 0,
     RIBALTZEN_SHEET_TOO_LONG = 1,
