@@ -1,14 +1,10 @@
 -- `streams::output::print` meets its contract: it answers true only where all before it was written.
 -- Assumes nothing.
-use mathlib.Core.Path.{_≡_, refl}
-use mathlib.Core.Bool.{Bool, true, false, not, true≢false, false≢true}
+use mathlib.Core.Bool.{false≢true}
+use borrow.Author.Tests.{not-false}
 use borrow.Author.Needs.{needs}
 use Rattle.streams.proofs.output.print.Statement.{statement}
 use Rattle.streams.proofs.output.print.Tie as tie
-
-not-false : (b : Bool) → not b ≡ false → b ≡ true
-not-false true e = refl
-not-false false e = absurd (true≢false e)
 
 written : tie.Need-returns-2
 written c all = not-false _ (c .before .before .if1 .left)
