@@ -1,4 +1,6 @@
 -- The look-up by number.
---     Look    where a number of a kind is found
+--     Places    the places of a finder
+--     Look      where a number of a kind is found, with a finder and without one
 -- Assumes nothing.
+pub mod Places
 pub mod Look

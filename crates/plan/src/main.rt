@@ -18,6 +18,7 @@ ghost use Rattle.plan_text.specs.Written.{lineRoom};
 
 fn run(
     buffer: &mut [u8],
+    finder: &mut [u32],
     hidden: &mut [u32],
     tape: &mut [u8],
     counts: &mut [u64],
@@ -27,18 +28,20 @@ fn run(
     requires { ⌜ lineRoom ≤ length (now text) ⌝ }
 {
     let input = streams::read_to_end(STDIN_FILENO, buffer);
-    let printed = plan_answer::answer_input(buffer, input, hidden, tape, counts, marks);
+    let printed = plan_answer::answer_input(buffer, input, finder, hidden, tape, counts, marks);
     plan_answer::print_answer(true, text, printed, tape);
 }
 
-// Counts and marks are enough for 4,096 cells at depth 32.
+// The finder has a place for each 26 bytes of input, which no sheet exceeds. Counts and marks are enough for 4,096 cells at depth 32.
 fn lend(buffer: &mut [u8], tape: &mut [u8]) {
+    let mut finder = [0u32; 50412];
     let mut hidden = [0u32; 16384];
     let mut counts = [0u64; 131072];
     let mut marks = [0u8; 139264];
-    let mut text = [0u8; 65536];
+    let mut text = [0u8; 8192];
     run(
         buffer,
+        &mut finder,
         &mut hidden,
         tape,
         &mut counts,
@@ -53,7 +56,7 @@ fn lend_tape(buffer: &mut [u8]) {
     lend(buffer, &mut tape);
 }
 
-// An input of 1,310,720 bytes fits: one that fills the buffer is too long. All buffers together leave 390 KiB of a stack of 8 MiB.
+// An input of 1,310,720 bytes fits: one that fills the buffer is too long. All buffers together leave 248 KiB of a stack of 8 MiB.
 fn main() {
     let mut buffer = [0u8; 1310721];
     lend_tape(&mut buffer);

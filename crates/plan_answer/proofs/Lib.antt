@@ -1,5 +1,6 @@
 -- Facts about answers.
 --     Outcomes         which answer an outcome tells of
+--     OwnFinder        a plan in the list in which the sheet was opened
 --     Replies          the reply to an input, by code path
 --     Parts            a part of a text
 --     Buffers          buffers of zeros, for programs
@@ -7,6 +8,7 @@
 --     WorkedExample    document 01's worked example, from its bytes to its text
 -- Assumes nothing.
 pub mod Outcomes
+pub mod OwnFinder
 pub mod Replies
 pub mod Parts
 pub mod Buffers

@@ -25,7 +25,7 @@ workedQuery =
 
 -- lent: no hidden layer, a tape of 80 bytes, a count and three marks
 abbrev replied : List ℕ → Reply
-replied s = replyOf s [] (replicate 80 7) (8 ∷ []) (9 ∷ 9 ∷ 9 ∷ [])
+replied s = replyOf s [] [] (replicate 80 7) (8 ∷ []) (9 ∷ 9 ∷ 9 ∷ [])
 
 -- "All it prints"
 pub worked-example : (replied (workedQuery ++ workedSheet)) .text ≡ ascii "text 0 4024000000000000 4034000000000000\ntotals 1 1 0 0 0 0\n"
@@ -43,9 +43,9 @@ unfolding openedQuery openedText replyOf
 no-query = refl
 
 -- "Input beyond the program's buffers .. prints `too long` before all else"
-pub too-long : (b : List ℕ) → (replyOfInput b TooLong [] [] [] []) .text ≡ ascii "too long\n"
+pub too-long : (b : List ℕ) → (replyOfInput b TooLong [] [] [] [] []) .text ≡ ascii "too long\n"
 too-long b = refl
 
 -- a plan is never printed of an input that could not be read to its end
-pub unreadable : (b h o k m : List ℕ) → (replyOfInput b Unreadable h o k m) .text ≡ ascii "unreadable\n"
-unreadable b h o k m = refl
+pub unreadable : (b f h o k m : List ℕ) → (replyOfInput b Unreadable f h o k m) .text ≡ ascii "unreadable\n"
+unreadable b f h o k m = refl

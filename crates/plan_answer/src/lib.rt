@@ -1,4 +1,5 @@
 // What the program `plan` answers to an input, and the text of that answer.
+mod opened; // a plan with a finder that is opened for it
 mod input; // the answer to an input
 mod part; // the text of an answer, a part at a time
 mod print; // the text of an answer, printed

@@ -12,7 +12,8 @@ use Rattle.geometry.specs.declared.bbox.Bounds.{Bounds}
 use Rattle.geometry.specs.declared.placement.Placement.{Placement}
 use Rattle.records.specs.declared.PreparedSource.{PreparedSource}
 use Rattle.records.specs.declared.PreparedReference.{PreparedReference}
-use Rattle.abstract_sheet.specs.Sheet.{NodeRecord, CellRecord, Sheet, sheetOf}
+use Rattle.abstract_sheet.specs.Sheet.{NodeRecord, CellRecord, Sheet}
+use Rattle.look_up.specs.Look.{sheetWith}
 use Rattle.plan_rules.specs.declared.ScenePlan.{ScenePlan}
 use Rattle.plan_rules.specs.declared.SceneOptions.{SceneOptions}
 use Rattle.plan_rules.specs.declared.Answer.{Answer}
@@ -34,18 +35,18 @@ use Rattle.plan_rules.specs.Outcome as outcome
 abbrev pub fixedQuery : Fixed → List ℕ → Query
 fixedQuery f hidden = queryOf (f .options) hidden (f .«object_limit»)
 
--- What a plan is given besides what goes by value (f): the sheet and the hidden layers.
+-- What a plan is given besides what goes by value (f): the sheet, as it is looked up, and the hidden layers.
 pub record Given (f : Fixed) : Type 0 where
   pub sheet : Sheet
   pub hidden : List ℕ
 
--- the same of a sheet's bytes
-abbrev pub givenBytes : (f : Fixed) → List ℕ → List ℕ → Given f
-givenBytes f s hidden = record { sheet = sheetOf s; hidden = hidden }
+-- the same of a sheet's bytes, and of the finder beside them: an empty one is none
+abbrev pub givenBytes : (f : Fixed) → List ℕ → List ℕ → List ℕ → Given f
+givenBytes f s finder hidden = record { sheet = sheetWith s finder (f .counts); hidden = hidden }
 
--- the same of the lent bytes and layers
-abbrev pub given : (f : Fixed) → RefT (List ℕ) → RefT (List ℕ) → Given f
-given f sheet hidden = givenBytes f (sheet .now) (hidden .now)
+-- the same of what is lent
+abbrev pub given : (f : Fixed) → RefT (List ℕ) → RefT (List ℕ) → RefT (List ℕ) → Given f
+given f sheet finder hidden = givenBytes f (sheet .now) (finder .now) (hidden .now)
 
 -- ---- what a call is handed, and what it leaves
 

@@ -128,6 +128,7 @@ fn print_input(
     going: bool,
     word: &[u8],
     input: &[u8],
+    finder: &mut [u32],
     hidden: &mut [u32],
     tape: &mut [u8],
     counts: &mut [u64],
@@ -137,7 +138,7 @@ fn print_input(
     requires { ⌜ lineRoom ≤ length (now text) ⌝ }
 {
     let going = streams::print(going, word);
-    let printed = plan_answer::answer(input, hidden, tape, counts, marks);
+    let printed = plan_answer::answer(input, finder, hidden, tape, counts, marks);
     plan_answer::print_answer(going, text, printed, tape)
 }
 
@@ -147,6 +148,7 @@ fn print_unread(
     word: &[u8],
     buffer: &[u8],
     input: Input,
+    finder: &mut [u32],
     hidden: &mut [u32],
     tape: &mut [u8],
     counts: &mut [u64],
@@ -157,7 +159,7 @@ fn print_unread(
     requires { ⌜ lineRoom ≤ length (now text) ⌝ }
 {
     let going = streams::print(going, word);
-    let printed = plan_answer::answer_input(buffer, input, hidden, tape, counts, marks);
+    let printed = plan_answer::answer_input(buffer, input, finder, hidden, tape, counts, marks);
     plan_answer::print_answer(going, text, printed, tape)
 }
 
@@ -176,6 +178,7 @@ fn put_many_cells(room: &mut [u8]) -> usize {
 
 fn print_many_cells(
     room: &mut [u8],
+    finder: &mut [u32],
     hidden: &mut [u32],
     tape: &mut [u8],
     counts: &mut [u64],
@@ -192,6 +195,7 @@ fn print_many_cells(
         true,
         b"4,097 cells: ",
         &room[..end],
+        finder,
         hidden,
         tape,
         counts,
@@ -204,6 +208,7 @@ fn print_many_cells(
 fn print_hidden_layer(
     going: bool,
     room: &mut [u8],
+    finder: &mut [u32],
     hidden: &mut [u32],
     tape: &mut [u8],
     counts: &mut [u64],
@@ -217,6 +222,7 @@ fn print_hidden_layer(
         going,
         b"no room for hidden layers: ",
         room,
+        finder,
         &mut hidden[..0],
         tape,
         counts,
@@ -228,6 +234,7 @@ fn print_hidden_layer(
 // Inputs that are refused, or too long, for their size.
 fn print_long(
     room: &mut [u8],
+    finder: &mut [u32],
     hidden: &mut [u32],
     tape: &mut [u8],
     counts: &mut [u64],
@@ -236,14 +243,15 @@ fn print_long(
 ) -> bool
     requires { ⌜ lineRoom ≤ length (now text) ⌝ }
 {
-    let going = print_many_cells(room, hidden, tape, counts, marks, text);
-    print_hidden_layer(going, room, hidden, tape, counts, marks, text)
+    let going = print_many_cells(room, finder, hidden, tape, counts, marks, text);
+    print_hidden_layer(going, room, finder, hidden, tape, counts, marks, text)
 }
 
 // Inputs that were not read to their end, which the bytes in the buffer do not matter for.
 fn print_unreads(
     going: bool,
     buffer: &[u8],
+    finder: &mut [u32],
     hidden: &mut [u32],
     tape: &mut [u8],
     counts: &mut [u64],
@@ -257,6 +265,7 @@ fn print_unreads(
         b"no room for the input: ",
         buffer,
         Input::TooLong,
+        finder,
         hidden,
         tape,
         counts,
@@ -268,6 +277,7 @@ fn print_unreads(
         b"a read that failed: ",
         buffer,
         Input::Unreadable,
+        finder,
         hidden,
         tape,
         counts,
@@ -356,6 +366,7 @@ fn compare_one(
     word: u64,
     number: u64,
     t: Tally,
+    finder: &mut [u32],
     hidden: &mut [u32],
     tape: &mut [u8],
     counts: &mut [u64],
@@ -367,7 +378,7 @@ fn compare_one(
     if word_of(expected) != word {
         return t;
     }
-    let printed = plan_answer::answer(input, hidden, tape, counts, marks);
+    let printed = plan_answer::answer(input, finder, hidden, tape, counts, marks);
     let passed = is_expected(expected, text, printed, tape);
     let going = print_if_first(t, text, printed, tape);
     counted(
@@ -386,6 +397,7 @@ fn compare(
     cases: &[u8],
     word: u64,
     going: bool,
+    finder: &mut [u32],
     hidden: &mut [u32],
     tape: &mut [u8],
     counts: &mut [u64],
@@ -412,6 +424,7 @@ fn compare(
             word,
             number,
             t,
+            finder,
             hidden,
             tape,
             counts,
@@ -428,6 +441,7 @@ fn compare(
 fn compare_all(
     going: bool,
     cases: &[u8],
+    finder: &mut [u32],
     hidden: &mut [u32],
     tape: &mut [u8],
     counts: &mut [u64],
@@ -443,7 +457,17 @@ fn compare_all(
     };
     let mut word = 0u64;
     while word < WORDS {
-        let t = compare(cases, word, sum.going, hidden, tape, counts, marks, text);
+        let t = compare(
+            cases,
+            word,
+            sum.going,
+            finder,
+            hidden,
+            tape,
+            counts,
+            marks,
+            text,
+        );
         sum = say_group(word, t, sum);
         word += 1;
     }
@@ -454,6 +478,7 @@ fn compare_all(
 fn print_first(
     going: bool,
     cases: &[u8],
+    finder: &mut [u32],
     hidden: &mut [u32],
     tape: &mut [u8],
     counts: &mut [u64],
@@ -462,7 +487,7 @@ fn print_first(
 ) -> bool
     requires { ⌜ lineRoom ≤ length (now text) ⌝ }
 {
-    let going = print_unreads(going, cases, hidden, tape, counts, marks, text);
+    let going = print_unreads(going, cases, finder, hidden, tape, counts, marks, text);
     if cases.len() == 0 {
         return going;
     }
@@ -473,6 +498,7 @@ fn print_first(
         going,
         b"no room for the tape: ",
         &cases[input..expected],
+        finder,
         hidden,
         &mut tape[..0],
         counts,
@@ -485,6 +511,7 @@ fn print_first(
 fn replay(
     going: bool,
     cases: &[u8],
+    finder: &mut [u32],
     hidden: &mut [u32],
     tape: &mut [u8],
     counts: &mut [u64],
@@ -493,14 +520,15 @@ fn replay(
 )
     requires { ⌜ lineRoom ≤ length (now text) ⌝ }
 {
-    let going = print_first(going, cases, hidden, tape, counts, marks, text);
-    compare_all(going, cases, hidden, tape, counts, marks, text);
+    let going = print_first(going, cases, finder, hidden, tape, counts, marks, text);
+    compare_all(going, cases, finder, hidden, tape, counts, marks, text);
 }
 
 // The room behind so many bytes of cases serves for long inputs, then the cases are replayed.
 fn run_cases(
     buffer: &mut [u8],
     size: usize,
+    finder: &mut [u32],
     hidden: &mut [u32],
     tape: &mut [u8],
     counts: &mut [u64],
@@ -510,13 +538,31 @@ fn run_cases(
     requires { ⌜ size ≤ length (now buffer) ⌝ }
     requires { ⌜ lineRoom ≤ length (now text) ⌝ }
 {
-    let going = print_long(&mut buffer[size..], hidden, tape, counts, marks, text);
-    replay(going, &buffer[..size], hidden, tape, counts, marks, text);
+    let going = print_long(
+        &mut buffer[size..],
+        finder,
+        hidden,
+        tape,
+        counts,
+        marks,
+        text,
+    );
+    replay(
+        going,
+        &buffer[..size],
+        finder,
+        hidden,
+        tape,
+        counts,
+        marks,
+        text,
+    );
 }
 
 // Reads the cases, which must leave room in their buffer.
 fn run(
     cases: &mut [u8],
+    finder: &mut [u32],
     hidden: &mut [u32],
     tape: &mut [u8],
     counts: &mut [u64],
@@ -526,7 +572,7 @@ fn run(
     requires { ⌜ lineRoom ≤ length (now text) ⌝ }
 {
     match streams::read_to_end(STDIN_FILENO, cases) {
-        Input::Whole(size) => run_cases(cases, size, hidden, tape, counts, marks, text),
+        Input::Whole(size) => run_cases(cases, size, finder, hidden, tape, counts, marks, text),
         Input::TooLong => {
             streams::print(true, b"too long\n");
         }
@@ -537,6 +583,7 @@ fn run(
 }
 
 fn lend(cases: &mut [u8]) {
+    let mut finder = [0u32; 64];
     let mut hidden = [0u32; 1024];
     let mut tape = [0u8; 262144];
     let mut counts = [0u64; 131072];
@@ -544,6 +591,7 @@ fn lend(cases: &mut [u8]) {
     let mut text = [0u8; 4096];
     run(
         cases,
+        &mut finder,
         &mut hidden,
         &mut tape,
         &mut counts,

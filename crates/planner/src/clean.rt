@@ -10,6 +10,7 @@ ghost use Rattle.planner.specs.Swept.{swept};
 
 pub fn visit_clean(
     sheet: &[u8],
+    finder: &[u32],
     fixed: Fixed,
     hidden: &[u32],
     out: &mut [u8],
@@ -17,11 +18,20 @@ pub fn visit_clean(
     marks: &mut [u8],
 ) -> ScenePlan
     ensures { λ r. ⌜ lent r (out .exit) (counts .exit) (marks .exit)
-        ≡ swept (given fixed (sheet .entry) (hidden .entry)) (now (out .entry)) (length (now (counts .entry))) (length (now (marks .entry))) ⌝ }
+        ≡ swept (given fixed (sheet .entry) (finder .entry) (hidden .entry)) (now (out .entry)) (length (now (counts .entry))) (length (now (marks .entry))) ⌝ }
 {
     scratch::clear_counts(counts);
     scratch::clear_bytes(marks);
-    let plan = visit_root(sheet, fixed, hidden, out, counts, marks, empty_plan());
+    let plan = visit_root(
+        sheet,
+        finder,
+        fixed,
+        hidden,
+        out,
+        counts,
+        marks,
+        empty_plan(),
+    );
     // "It and an accepted plan leave the named scratch places zero."
     scratch::clear_counts(counts);
     scratch::clear_bytes(marks);

@@ -4,6 +4,7 @@ mod start; // the root's placement and the empty plan
 mod finish; // the totals, and question 12
 mod root; // the visit of the root
 mod clean; // the visits on zeroed scratch
-mod entry; // the entry point
+mod entry; // the entry points
 
 pub use entry::plan;
+pub use entry::plan_with_finder;

@@ -12,10 +12,16 @@ ghost use Prim.Native.Nat.{ℕ};
 ghost use Rattle.plan_rules.specs.OnTape.{givenBytes, given, Leaves, lent, visitRoot};
 
 // "Depth 0 gives just one proxy if the root has a box that overlaps the view."
-fn load_root(sheet: &[u8], fixed: Fixed, out: &mut [u8], plan: ScenePlan) -> ScenePlan
-    ensures { λ r. ⌜ ((hidden : List ℕ) → Leaves r (out .exit) (visitRoot (givenBytes fixed (now (sheet .entry)) hidden) 0) plan (out .entry)) ⌝ }
+fn load_root(
+    sheet: &[u8],
+    finder: &[u32],
+    fixed: Fixed,
+    out: &mut [u8],
+    plan: ScenePlan,
+) -> ScenePlan
+    ensures { λ r. ⌜ ((hidden : List ℕ) → Leaves r (out .exit) (visitRoot (givenBytes fixed (now (sheet .entry)) (now (finder .entry)) hidden) 0) plan (out .entry)) ⌝ }
 {
-    let Found::At(at) = look_up::look_up(sheet, 5, fixed.options.root) else {
+    let Found::At(at) = look_up::look_up(sheet, finder, fixed.counts, 5, fixed.options.root) else {
         return plan;
     };
     let record = records::cell_at(sheet, at);
@@ -32,6 +38,7 @@ fn load_root(sheet: &[u8], fixed: Fixed, out: &mut [u8], plan: ScenePlan) -> Sce
 
 pub fn visit_root(
     sheet: &[u8],
+    finder: &[u32],
     fixed: Fixed,
     hidden: &[u32],
     out: &mut [u8],
@@ -40,13 +47,14 @@ pub fn visit_root(
     plan: ScenePlan,
 ) -> ScenePlan
     ensures { λ r. ⌜ lent r (out .exit) (counts .exit) (marks .exit)
-        ≡ visitRoot (given fixed (sheet .entry) (hidden .entry)) (fixed .options .depth) (lent plan (out .entry) (counts .entry) (marks .entry)) ⌝ }
+        ≡ visitRoot (given fixed (sheet .entry) (finder .entry) (hidden .entry)) (fixed .options .depth) (lent plan (out .entry) (counts .entry) (marks .entry)) ⌝ }
 {
     if fixed.options.depth == 0 {
-        return load_root(sheet, fixed, out, plan);
+        return load_root(sheet, finder, fixed, out, plan);
     }
     visits::visit_cell(
         sheet,
+        finder,
         fixed,
         hidden,
         out,

@@ -1,2 +1,2 @@
--- What the exported call is handed and what it gives back, in the rules' terms.
+-- What the exported calls are handed and what they give back, in the rules' terms.
 pub mod Call

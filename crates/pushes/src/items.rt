@@ -24,6 +24,7 @@ ghost use Rattle.plan_rules.specs.OnTape.{Given, given, Leaves, LeavesFlow, pus
 
 pub fn push_geometry(
     sheet: &[u8],
+    finder: &[u32],
     fixed: Fixed,
     hidden: &[u32],
     out: &mut [u8],
@@ -31,9 +32,9 @@ pub fn push_geometry(
     number: u32,
     transform: Placement,
 ) -> ScenePlan
-    ensures { λ r. ⌜ Leaves r (out .exit) (pushGeometry (given fixed (sheet .entry) (hidden .entry)) number transform) plan (out .entry) ⌝ }
+    ensures { λ r. ⌜ Leaves r (out .exit) (pushGeometry (given fixed (sheet .entry) (finder .entry) (hidden .entry)) number transform) plan (out .entry) ⌝ }
 {
-    let Found::At(at) = look_up::look_up(sheet, 1, number) else {
+    let Found::At(at) = look_up::look_up(sheet, finder, fixed.counts, 1, number) else {
         return plan;
     };
     let geometry = records::geometry_at(sheet, at);
@@ -60,6 +61,7 @@ pub fn push_geometry(
 // The budget is not asked here: `visit_cell` asks it before each text and `visit_reference` before each member, as in the Rust.
 pub fn push_text(
     sheet: &[u8],
+    finder: &[u32],
     fixed: Fixed,
     hidden: &[u32],
     out: &mut [u8],
@@ -67,9 +69,9 @@ pub fn push_text(
     number: u32,
     transform: Placement,
 ) -> ScenePlan
-    ensures { λ r. ⌜ Leaves r (out .exit) (pushText (given fixed (sheet .entry) (hidden .entry)) number transform) plan (out .entry) ⌝ }
+    ensures { λ r. ⌜ Leaves r (out .exit) (pushText (given fixed (sheet .entry) (finder .entry) (hidden .entry)) number transform) plan (out .entry) ⌝ }
 {
-    let Found::At(at) = look_up::look_up(sheet, 2, number) else {
+    let Found::At(at) = look_up::look_up(sheet, finder, fixed.counts, 2, number) else {
         return plan;
     };
     let text = records::text_at(sheet, at);
@@ -143,6 +145,7 @@ fn push_points(
 
 pub fn push_node(
     sheet: &[u8],
+    finder: &[u32],
     fixed: Fixed,
     hidden: &[u32],
     out: &mut [u8],
@@ -150,9 +153,9 @@ pub fn push_node(
     number: u32,
     transform: Placement,
 ) -> Visited
-    ensures { λ r. ⌜ LeavesFlow (r .whole) (r .plan) (out .exit) (pushNode (given fixed (sheet .entry) (hidden .entry)) number transform) plan (out .entry) ⌝ }
+    ensures { λ r. ⌜ LeavesFlow (r .whole) (r .plan) (out .exit) (pushNode (given fixed (sheet .entry) (finder .entry) (hidden .entry)) number transform) plan (out .entry) ⌝ }
 {
-    let Found::At(at) = look_up::look_up(sheet, 3, number) else {
+    let Found::At(at) = look_up::look_up(sheet, finder, fixed.counts, 3, number) else {
         return Visited { plan, whole: true };
     };
     let node = records::node_at(sheet, at);

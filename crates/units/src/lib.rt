@@ -1,8 +1,10 @@
 // Draw units over the lent counts and marks: `reference_draw_units`, `source_draw_units` and `cell_draw_units`, in a cycle of calls with the look-up of a reference by number.
+// `kinds` is how many records of each kind the sheet has: where its finder has each kind, and how wide a layer of the scratch is.
 // Depth and call position fall: a reference asks its source one depth below, and a source asks a cell, which asks references, at its own depth.
 ghost use mathlib.Core.Path.{_≡_};
-ghost use Rattle.abstract_sheet.specs.Sheet.{sheetOf};
+ghost use Rattle.look_up.specs.Look.{sheetWith};
 ghost use Rattle.plan_rules.specs.DrawUnits.{counted, referenceDrawUnits, numberedDrawUnits, sourceDrawUnits, cellDrawUnits};
+use check_sheet::Counts;
 use records::PreparedReference;
 use records::PreparedSource;
 use scratch::COMPLEXITY_STACK;
@@ -14,13 +16,14 @@ pub use totals::source_units;
 
 pub fn reference_draw_units(
     sheet: &[u8],
-    cells: u32,
+    finder: &[u32],
+    kinds: Counts,
     counts: &mut [u64],
     marks: &mut [u8],
     reference: PreparedReference,
     depth: u32,
 ) -> u64
-    ensures { λ r. ⌜ counted r (now (counts .exit)) (now (marks .exit)) ≡ referenceDrawUnits (sheetOf (now (sheet .entry))) cells depth reference (now (counts .entry)) (now (marks .entry)) ⌝ }
+    ensures { λ r. ⌜ counted r (now (counts .exit)) (now (marks .exit)) ≡ referenceDrawUnits (sheetWith (now (sheet .entry)) (now (finder .entry)) kinds) (kinds .cells) depth reference (now (counts .entry)) (now (marks .entry)) ⌝ }
 {
     let count = grid::grid_count(reference.grid);
     if count == 0 {
@@ -30,43 +33,54 @@ pub fn reference_draw_units(
         return totals::scaled(count, 1);
     }
     let source = reference.source;
-    let source_count = source_draw_units(sheet, cells, counts, marks, source, depth - 1);
+    let source_count = source_draw_units(sheet, finder, kinds, counts, marks, source, depth - 1);
     totals::scaled(count, source_count)
 }
 
 // The same of the reference that a number names.
 fn numbered_draw_units(
     sheet: &[u8],
-    cells: u32,
+    finder: &[u32],
+    kinds: Counts,
     counts: &mut [u64],
     marks: &mut [u8],
     number: u32,
     depth: u32,
 ) -> u64
-    ensures { λ r. ⌜ counted r (now (counts .exit)) (now (marks .exit)) ≡ numberedDrawUnits (sheetOf (now (sheet .entry))) cells depth number (now (counts .entry)) (now (marks .entry)) ⌝ }
+    ensures { λ r. ⌜ counted r (now (counts .exit)) (now (marks .exit)) ≡ numberedDrawUnits (sheetWith (now (sheet .entry)) (now (finder .entry)) kinds) (kinds .cells) depth number (now (counts .entry)) (now (marks .entry)) ⌝ }
 {
-    let Found::At(at) = look_up::look_up(sheet, 4, number) else {
+    let Found::At(at) = look_up::look_up(sheet, finder, kinds, 4, number) else {
         return 0; // no sheet that passes question 7 names such a reference
     };
     let reference = records::reference_at(sheet, at);
-    reference_draw_units(sheet, cells, counts, marks, reference, depth)
+    reference_draw_units(sheet, finder, kinds, counts, marks, reference, depth)
 }
 
 fn source_draw_units(
     sheet: &[u8],
-    cells: u32,
+    finder: &[u32],
+    kinds: Counts,
     counts: &mut [u64],
     marks: &mut [u8],
     source: PreparedSource,
     depth: u32,
 ) -> u64
-    ensures { λ r. ⌜ counted r (now (counts .exit)) (now (marks .exit)) ≡ sourceDrawUnits (sheetOf (now (sheet .entry))) cells depth source (now (counts .entry)) (now (marks .entry)) ⌝ }
+    ensures { λ r. ⌜ counted r (now (counts .exit)) (now (marks .exit)) ≡ sourceDrawUnits (sheetWith (now (sheet .entry)) (now (finder .entry)) kinds) (kinds .cells) depth source (now (counts .entry)) (now (marks .entry)) ⌝ }
 {
     match source {
-        PreparedSource::Cell(cell) => cell_draw_units(sheet, cells, counts, marks, cell, depth),
+        PreparedSource::Cell(cell) => cell_draw_units(
+            sheet,
+            finder,
+            kinds,
+            counts,
+            marks,
+            cell,
+            depth,
+        ),
         PreparedSource::Reference(number) => numbered_draw_units(
             sheet,
-            cells,
+            finder,
+            kinds,
             counts,
             marks,
             number,
@@ -80,17 +94,19 @@ fn source_draw_units(
 
 fn cell_draw_units(
     sheet: &[u8],
-    cells: u32,
+    finder: &[u32],
+    kinds: Counts,
     counts: &mut [u64],
     marks: &mut [u8],
     cell: u32,
     depth: u32,
 ) -> u64
-    ensures { λ r. ⌜ counted r (now (counts .exit)) (now (marks .exit)) ≡ cellDrawUnits (sheetOf (now (sheet .entry))) cells depth cell (now (counts .entry)) (now (marks .entry)) ⌝ }
+    ensures { λ r. ⌜ counted r (now (counts .exit)) (now (marks .exit)) ≡ cellDrawUnits (sheetWith (now (sheet .entry)) (now (finder .entry)) kinds) (kinds .cells) depth cell (now (counts .entry)) (now (marks .entry)) ⌝ }
 {
-    let Found::At(at) = look_up::look_up(sheet, 5, cell) else {
+    let Found::At(at) = look_up::look_up(sheet, finder, kinds, 5, cell) else {
         return 1; // the sheet lacks the cell
     };
+    let cells = kinds.cells;
     if depth == 0 {
         return 1; // asked before the cache, which has no place for it
     }
@@ -107,7 +123,7 @@ fn cell_draw_units(
     let mut i: u32 = 0;
     while i < references {
         let number = records::cell_reference_at(sheet, at, i);
-        let more = numbered_draw_units(sheet, cells, counts, marks, number, depth);
+        let more = numbered_draw_units(sheet, finder, kinds, counts, marks, number, depth);
         count = limits::saturating_add(count, more);
         i += 1;
     }

@@ -61,6 +61,7 @@ nodes = record {
 -- what the code's loop keeps: the arguments of its call, and how many numbers it has read that there are
 pub record Call : Type 0 where
   pub sheet : List ℕ
+  pub finder : List ℕ
   pub fixed : Fixed
   pub hidden : List ℕ
   pub out : List ℕ
@@ -70,7 +71,7 @@ pub record Call : Type 0 where
 
 -- what its plan is given
 abbrev pub toPlan : (a : Call) → Given (a .fixed)
-toPlan a = givenBytes (a .fixed) (a .sheet) (a .hidden)
+toPlan a = givenBytes (a .fixed) (a .sheet) (a .finder) (a .hidden)
 
 module _ (L : Loop) (a : Call) where
   abbrev pub listed : Numbers
@@ -92,12 +93,12 @@ module _ (L : Loop) (a : Call) where
     pub left : (k m : List ℕ) → each turn (a .count - i) i (world plan out k m) ≡ whole k m
 
 -- the invariant of a loop, and the number that falls in it, over the code's values
-abbrev pub Inv : Loop → List ℕ → Fixed → List ℕ → List ℕ → OpenCell → ℕ → ScenePlan → ℕ → List ℕ → ScenePlan → ℕ → Type 0
-Inv L sheet fixed hidden out₀ cell count plan₀ i₀ =
-    Left L (record { sheet = sheet; fixed = fixed; hidden = hidden; out = out₀; plan = plan₀; cell = cell; count = count })
+abbrev pub Inv : Loop → List ℕ → List ℕ → Fixed → List ℕ → List ℕ → OpenCell → ℕ → ScenePlan → ℕ → List ℕ → ScenePlan → ℕ → Type 0
+Inv L sheet finder fixed hidden out₀ cell count plan₀ i₀ =
+    Left L (record { sheet = sheet; finder = finder; fixed = fixed; hidden = hidden; out = out₀; plan = plan₀; cell = cell; count = count })
 
-abbrev pub μ : List ℕ → Fixed → List ℕ → List ℕ → OpenCell → ℕ → ScenePlan → ℕ → List ℕ → ScenePlan → ℕ → ℕ
-μ sheet fixed hidden out₀ cell count plan₀ i₀ out plan i = count - i
+abbrev pub μ : List ℕ → List ℕ → Fixed → List ℕ → List ℕ → OpenCell → ℕ → ScenePlan → ℕ → List ℕ → ScenePlan → ℕ → ℕ
+μ sheet finder fixed hidden out₀ cell count plan₀ i₀ out plan i = count - i
 
 -- ---- Facts
 

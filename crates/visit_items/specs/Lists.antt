@@ -35,8 +35,8 @@ module _ {f : Fixed} (g : Given f) (c : OpenCell) (x : CellRecord) where
   visitLists on w = ending (cellBody g (c .number) x (c .transform) (c .bounds) on w)
 
 -- what `push_items` promises: whatever the way to visit on and the scratch, its references, visited, leave what all its lists leave
-abbrev pub LeavesReferences : RefT (List ℕ) → Fixed → RefT (List ℕ) → OpenCell → Listed → RefT (List ℕ) → ScenePlan → RefT (List ℕ) → Type 0
-LeavesReferences sheet f hidden c r out plan outBefore =
-    (on : VisitReference (given f sheet hidden)) (k m : List ℕ)
-    → visitReferences (given f sheet hidden) c (opened (sheet .now) c) on (r .references) (world (r .plan) (out .now) k m)
-    ≡ visitLists (given f sheet hidden) c (opened (sheet .now) c) on (world plan (outBefore .now) k m)
+abbrev pub LeavesReferences : RefT (List ℕ) → RefT (List ℕ) → Fixed → RefT (List ℕ) → OpenCell → Listed → RefT (List ℕ) → ScenePlan → RefT (List ℕ) → Type 0
+LeavesReferences sheet finder f hidden c r out plan outBefore =
+    (on : VisitReference (given f sheet finder hidden)) (k m : List ℕ)
+    → visitReferences (given f sheet finder hidden) c (opened (sheet .now) c) on (r .references) (world (r .plan) (out .now) k m)
+    ≡ visitLists (given f sheet finder hidden) c (opened (sheet .now) c) on (world plan (outBefore .now) k m)

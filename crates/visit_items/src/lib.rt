@@ -30,15 +30,16 @@ pub struct Listed {
 
 pub fn push_items(
     sheet: &[u8],
+    finder: &[u32],
     fixed: Fixed,
     hidden: &[u32],
     out: &mut [u8],
     plan: ScenePlan,
     cell: OpenCell,
 ) -> Listed
-    ensures { λ r. ⌜ LeavesReferences (sheet .entry) fixed (hidden .entry) cell r (out .exit) plan (out .entry) ⌝ }
+    ensures { λ r. ⌜ LeavesReferences (sheet .entry) (finder .entry) fixed (hidden .entry) cell r (out .exit) plan (out .entry) ⌝ }
 {
-    let geometries = push_geometries(sheet, fixed, hidden, out, plan, cell);
+    let geometries = push_geometries(sheet, finder, fixed, hidden, out, plan, cell);
     let after_geometries = geometries.plan;
     if !geometries.whole {
         return Listed {
@@ -46,7 +47,7 @@ pub fn push_items(
             references: 0,
         };
     }
-    let texts = push_texts(sheet, fixed, hidden, out, after_geometries, cell);
+    let texts = push_texts(sheet, finder, fixed, hidden, out, after_geometries, cell);
     let after_texts = texts.plan;
     if !texts.whole {
         return Listed {
@@ -54,7 +55,7 @@ pub fn push_items(
             references: 0,
         };
     }
-    let nodes = push_nodes(sheet, fixed, hidden, out, after_texts, cell);
+    let nodes = push_nodes(sheet, finder, fixed, hidden, out, after_texts, cell);
     let after_nodes = nodes.plan;
     if !nodes.whole {
         return Listed {

@@ -24,13 +24,14 @@ pub fn load_cell(out: &mut [u8], plan: ScenePlan, cell: OpenCell) -> ScenePlan
 
 pub fn push_geometries(
     sheet: &[u8],
+    finder: &[u32],
     fixed: Fixed,
     hidden: &[u32],
     out: &mut [u8],
     plan: ScenePlan,
     cell: OpenCell,
 ) -> Visited
-    ensures { λ r. ⌜ LeavesFlow (r .whole) (r .plan) (out .exit) (pushGeometries (given fixed (sheet .entry) (hidden .entry)) cell (opened (now (sheet .entry)) cell)) plan (out .entry) ⌝ }
+    ensures { λ r. ⌜ LeavesFlow (r .whole) (r .plan) (out .exit) (pushGeometries (given fixed (sheet .entry) (finder .entry) (hidden .entry)) cell (opened (now (sheet .entry)) cell)) plan (out .entry) ⌝ }
 {
     let count = cell.record.geometries;
     let mut next = plan;
@@ -43,7 +44,16 @@ pub fn push_geometries(
             };
         }
         let number = records::cell_geometry_at(sheet, cell.at, i);
-        next = push_geometry(sheet, fixed, hidden, out, next, number, cell.transform);
+        next = push_geometry(
+            sheet,
+            finder,
+            fixed,
+            hidden,
+            out,
+            next,
+            number,
+            cell.transform,
+        );
         i += 1;
     }
     Visited {
@@ -54,13 +64,14 @@ pub fn push_geometries(
 
 pub fn push_texts(
     sheet: &[u8],
+    finder: &[u32],
     fixed: Fixed,
     hidden: &[u32],
     out: &mut [u8],
     plan: ScenePlan,
     cell: OpenCell,
 ) -> Visited
-    ensures { λ r. ⌜ LeavesFlow (r .whole) (r .plan) (out .exit) (pushTexts (given fixed (sheet .entry) (hidden .entry)) cell (opened (now (sheet .entry)) cell)) plan (out .entry) ⌝ }
+    ensures { λ r. ⌜ LeavesFlow (r .whole) (r .plan) (out .exit) (pushTexts (given fixed (sheet .entry) (finder .entry) (hidden .entry)) cell (opened (now (sheet .entry)) cell)) plan (out .entry) ⌝ }
 {
     let count = cell.record.texts;
     let mut next = plan;
@@ -73,7 +84,16 @@ pub fn push_texts(
             };
         }
         let number = records::cell_text_at(sheet, cell.at, i);
-        next = push_text(sheet, fixed, hidden, out, next, number, cell.transform);
+        next = push_text(
+            sheet,
+            finder,
+            fixed,
+            hidden,
+            out,
+            next,
+            number,
+            cell.transform,
+        );
         i += 1;
     }
     Visited {
@@ -84,13 +104,14 @@ pub fn push_texts(
 
 pub fn push_nodes(
     sheet: &[u8],
+    finder: &[u32],
     fixed: Fixed,
     hidden: &[u32],
     out: &mut [u8],
     plan: ScenePlan,
     cell: OpenCell,
 ) -> Visited
-    ensures { λ r. ⌜ LeavesFlow (r .whole) (r .plan) (out .exit) (pushNodes (given fixed (sheet .entry) (hidden .entry)) cell (opened (now (sheet .entry)) cell)) plan (out .entry) ⌝ }
+    ensures { λ r. ⌜ LeavesFlow (r .whole) (r .plan) (out .exit) (pushNodes (given fixed (sheet .entry) (finder .entry) (hidden .entry)) cell (opened (now (sheet .entry)) cell)) plan (out .entry) ⌝ }
 {
     let count = cell.record.nodes;
     let mut next = plan;
@@ -103,7 +124,16 @@ pub fn push_nodes(
             };
         }
         let number = records::cell_node_at(sheet, cell.at, i);
-        let visited = push_node(sheet, fixed, hidden, out, next, number, cell.transform);
+        let visited = push_node(
+            sheet,
+            finder,
+            fixed,
+            hidden,
+            out,
+            next,
+            number,
+            cell.transform,
+        );
         next = visited.plan;
         if !visited.whole {
             return Visited {

@@ -9,14 +9,15 @@ use Prim.Native.Nat.{ℕ}
 use lib.ListN.{set}
 use borrow.Author.Tests.{not-true, not-false}
 use Rattle.geometry.specs.declared.placement.Placement.{Placement}
+use Rattle.walk.specs.declared.Found.{Found}
 use Rattle.walk.specs.declared.Found.the-variants.{At, Nothing}
-use Rattle.look_up.specs.Look.{look}
 use Rattle.records.specs.declared.PreparedSource.{PreparedSource}
 use Rattle.records.specs.declared.PreparedSource.the-variants.{Geometry, Text, Node, Reference, Cell}
 use Rattle.records.specs.declared.PreparedCell.{PreparedCell}
 use Rattle.records.specs.Records.{cellAt, cellReferenceAt}
 use Rattle.abstract_sheet.specs.Sheet.{CellRecord, cellRecordWith, cellRecordAt, cells}
-use Rattle.abstract_sheet.proofs.Lookup.{item-read}
+use Rattle.look_up.specs.Look.{look}
+use Rattle.look_up.proofs.Looking.{item-looked}
 use Rattle.plan_rules.specs.declared.ScenePlan.{ScenePlan}
 use Rattle.plan_rules.specs.declared.Fixed.{Fixed}
 use Rattle.plan_rules.specs.declared.Reason.the-variants.{OtherLimit}
@@ -31,25 +32,25 @@ use Rattle.enter_cell.specs.declared.Entered.{Entered}
 use Rattle.enter_cell.specs.Left.{foundCell, leftOfCell}
 
 -- one turn of the loop over the references of the cell at an offset
-abbrev pub turn : List ℕ → Fixed → List ℕ → ℕ → OpenCell → ℕ → Output → Flow (List ℕ)
-turn s f hidden depth c = referenceStep (givenBytes f s hidden) (c .number) (opened s c) (c .transform) (c .bounds) (onReference (givenBytes f s hidden) depth)
+abbrev pub turn : List ℕ → List ℕ → Fixed → List ℕ → ℕ → OpenCell → ℕ → Output → Flow (List ℕ)
+turn s finder f hidden depth c = referenceStep (givenBytes f s finder hidden) (c .number) (opened s c) (c .transform) (c .bounds) (onReference (givenBytes f s finder hidden) depth)
 
-module _ (s : List ℕ) (f : Fixed) (hidden : List ℕ) (depth : ℕ) where
+module _ (s finder : List ℕ) (f : Fixed) (hidden : List ℕ) (depth : ℕ) where
   -- what the plan is given
   abbrev g : Given f
-  g = givenBytes f s hidden
+  g = givenBytes f s finder hidden
 
   -- ---- the loop of `visit_cell`
 
   module _ (c : OpenCell) (i : ℕ) (w v : Output) where
-    pub turn-exhausted : detailBudgetExhausted (query g) (w .state) ≡ true → v ≡ addLoadIfBoxed OtherLimit (c .number) (c .bounds) w → turn s f hidden depth c i w ≡ halt v
+    pub turn-exhausted : detailBudgetExhausted (query g) (w .state) ≡ true → v ≡ addLoadIfBoxed OtherLimit (c .number) (c .bounds) w → turn s finder f hidden depth c i w ≡ halt v
     turn-exhausted full boxed = Paths.reference-step-exhausted g (c .number) (opened s c) (c .transform) (c .bounds) i w full _ ∙ ap halt (sym boxed)
 
     pub turn-goes : (number : ℕ)
         → detailBudgetExhausted (query g) (w .state) ≡ false
         → number ≡ cellReferenceAt s (c .at) i
         → v ≡ visitReference g depth number (c .transform) w
-        → turn s f hidden depth c i w ≡ go v
+        → turn s finder f hidden depth c i w ≡ go v
     turn-goes number room listed visited =
         Paths.reference-step-goes g (c .number) (opened s c) (c .transform) (c .bounds) i w room _
         ∙ ap (λ (n : ℕ). go (visitReference g depth n (c .transform) w)) (sym listed)
@@ -61,18 +62,18 @@ module _ (s : List ℕ) (f : Fixed) (hidden : List ℕ) (depth : ℕ) where
     abbrev visited : Output
     visited = visitCell g depth cell p w
 
-    pub cell-missing : look s 5 cell ≡ Nothing → w ≡ visited
-    cell-missing e = sym (Paths.cell-missing g depth cell p w (item-read cells s cell e))
+    pub cell-missing : {found : Found} → found ≡ look s finder (f .counts) 5 cell → found ≡ Nothing → w ≡ visited
+    cell-missing looked told = sym (Paths.cell-missing g depth cell p w (item-looked cells s finder (f .counts) cell looked told))
 
     -- the cell is found at an offset, and its record is read
-    module _ (at : ℕ) (found : look s 5 cell ≡ At at) (record₁ : PreparedCell) (read : record₁ ≡ cellAt s at) (r : Entered) (w₁ : Output)
+    module _ {found : Found} (looked : found ≡ look s finder (f .counts) 5 cell) (at : ℕ) (told : found ≡ At at) (record₁ : PreparedCell) (read : record₁ ≡ cellAt s at) (r : Entered) (w₁ : Output)
         (entered : leftOfCell g (onReference g depth) cell (cellRecordWith s at record₁) p r w₁ ≡ foundCell g (onReference g depth) cell (cellRecordWith s at record₁) p w) where
       found-visited : leftOfCell g (onReference g depth) cell (cellRecordWith s at record₁) p r w₁ ≡ visited
       unfolding rules.visitCell cellRecordAt
       found-visited =
           entered
           ∙ ap (λ (x : PreparedCell). foundCell g (onReference g depth) cell (cellRecordWith s at x) p w) read
-          ∙ sym (ap (λ (o : Option CellRecord). visitFoundCell g (onReference g depth) cell p o w) (item-read cells s cell found))
+          ∙ sym (ap (λ (o : Option CellRecord). visitFoundCell g (onReference g depth) cell p o w) (item-looked cells s finder (f .counts) cell looked told))
 
       abbrev opened-cell : OpenCell
       opened-cell = record { number = cell; at = at; «record» = record₁; transform = p; bounds = r .bounds }

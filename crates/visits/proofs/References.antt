@@ -15,13 +15,14 @@ use Rattle.screen.specs.declared.CollapseTest.{CollapseTest}
 use Rattle.geometry.specs.Bbox.{sourceIsDegenerate}
 use Rattle.grid.specs.Grid.{gridCount}
 use Rattle.screen.specs.Screen.{referenceScreenSize, collapseTest, collapses}
+use Rattle.walk.specs.declared.Found.{Found}
 use Rattle.walk.specs.declared.Found.the-variants.{At, Nothing}
-use Rattle.look_up.specs.Look.{look}
 use Rattle.records.specs.declared.PreparedReference.{PreparedReference}
 use Rattle.records.specs.Records.{referenceAt}
 use Rattle.records.specs.Sources.{label}
 use Rattle.abstract_sheet.specs.Sheet.{references}
-use Rattle.abstract_sheet.proofs.Lookup.{item-read}
+use Rattle.look_up.specs.Look.{look}
+use Rattle.look_up.proofs.Looking.{item-looked}
 use Rattle.plan_rules.specs.declared.Fixed.{Fixed}
 use Rattle.plan_rules.specs.declared.Reason.{Reason}
 use Rattle.plan_rules.specs.declared.Reason.the-variants.{OtherLimit}
@@ -70,19 +71,19 @@ module _ (opens whole : Bool) (l : ℕ) (box : WorldBBox) (w : Output) (visited 
 
 -- ---- the look-up in a sheet's bytes
 
-module _ (s : List ℕ) (f : Fixed) (hidden : List ℕ) (depth number : ℕ) (transform : Placement) (w : Output) where
+module _ (s finder : List ℕ) (f : Fixed) (hidden : List ℕ) (depth number : ℕ) (transform : Placement) (w : Output) where
   abbrev g : Given f
-  g = givenBytes f s hidden
+  g = givenBytes f s finder hidden
 
-  pub missing : look s 4 number ≡ Nothing → w ≡ visitReference g depth number transform w
-  missing e = sym (Paths.reference-missing g depth number transform w (item-read references s number e))
+  pub missing : {found : Found} → found ≡ look s finder (f .counts) 4 number → found ≡ Nothing → w ≡ visitReference g depth number transform w
+  missing looked told = sym (Paths.reference-missing g depth number transform w (item-looked references s finder (f .counts) number looked told))
 
-  pub found : (at : ℕ) → look s 4 number ≡ At at → (r : PreparedReference) → r ≡ referenceAt s at
+  pub found : {result : Found} → result ≡ look s finder (f .counts) 4 number → (at : ℕ) → result ≡ At at → (r : PreparedReference) → r ≡ referenceAt s at
       → visitSourcedReference g (onSourceBelow g depth) depth r transform (r .«source_bbox») w ≡ visitReference g depth number transform w
   unfolding rules.visitFoundReference
-  found at e r read =
+  found looked at told r read =
       sym (Paths.reference-is g depth number transform w ∙ ap (λ (o : Option PreparedReference). visitFoundReference g (onSourceBelow g depth) depth transform o w)
-      (item-read references s number e ∙ ap some (sym read)))
+      (item-looked references s finder (f .counts) number looked told ∙ ap some (sym read)))
 
 -- ---- the draw units counted
 

@@ -15,6 +15,7 @@ ghost use Rattle.plan_rules.specs.OnTape.{given, lent, visitCell, visitReferenc
 
 pub fn visit_cell(
     sheet: &[u8],
+    finder: &[u32],
     fixed: Fixed,
     hidden: &[u32],
     out: &mut [u8],
@@ -26,9 +27,9 @@ pub fn visit_cell(
     depth: u32,
 ) -> ScenePlan
     ensures { λ r. ⌜ lent r (out .exit) (counts .exit) (marks .exit)
-        ≡ visitCell (given fixed (sheet .entry) (hidden .entry)) depth cell transform (lent plan (out .entry) (counts .entry) (marks .entry)) ⌝ }
+        ≡ visitCell (given fixed (sheet .entry) (finder .entry) (hidden .entry)) depth cell transform (lent plan (out .entry) (counts .entry) (marks .entry)) ⌝ }
 {
-    let Found::At(at) = look_up::look_up(sheet, 5, cell) else {
+    let Found::At(at) = look_up::look_up(sheet, finder, fixed.counts, 5, cell) else {
         return plan; // the sheet lacks the cell
     };
     let record = records::cell_at(sheet, at);
@@ -46,7 +47,7 @@ pub fn visit_cell(
         transform,
         bounds,
     };
-    let listed = visit_items::push_items(sheet, fixed, hidden, out, opened, open_cell);
+    let listed = visit_items::push_items(sheet, finder, fixed, hidden, out, opened, open_cell);
     let references = listed.references;
     let mut next = listed.plan;
     let mut i: u32 = 0;
@@ -59,6 +60,7 @@ pub fn visit_cell(
         let reference = records::cell_reference_at(sheet, at, i);
         next = visit_reference(
             sheet,
+            finder,
             fixed,
             hidden,
             out,
@@ -77,6 +79,7 @@ pub fn visit_cell(
 
 fn visit_reference(
     sheet: &[u8],
+    finder: &[u32],
     fixed: Fixed,
     hidden: &[u32],
     out: &mut [u8],
@@ -88,9 +91,9 @@ fn visit_reference(
     depth: u32,
 ) -> ScenePlan
     ensures { λ r. ⌜ lent r (out .exit) (counts .exit) (marks .exit)
-        ≡ visitReference (given fixed (sheet .entry) (hidden .entry)) depth number transform (lent plan (out .entry) (counts .entry) (marks .entry)) ⌝ }
+        ≡ visitReference (given fixed (sheet .entry) (finder .entry) (hidden .entry)) depth number transform (lent plan (out .entry) (counts .entry) (marks .entry)) ⌝ }
 {
-    let Found::At(at) = look_up::look_up(sheet, 4, number) else {
+    let Found::At(at) = look_up::look_up(sheet, finder, fixed.counts, 4, number) else {
         return plan; // no sheet that passes question 7 names such a reference
     };
     let reference = records::reference_at(sheet, at);
@@ -105,7 +108,8 @@ fn visit_reference(
     let count = grid::grid_count(reference.grid);
     let draw_units = units::reference_draw_units(
         sheet,
-        fixed.counts.cells,
+        finder,
+        fixed.counts,
         counts,
         marks,
         reference,
@@ -143,6 +147,7 @@ fn visit_reference(
         if tried.opens {
             let visited = visit_source(
                 sheet,
+                finder,
                 fixed,
                 hidden,
                 out,
@@ -168,6 +173,7 @@ fn visit_reference(
 // `false` if a limit stopped the points of a node.
 fn visit_source(
     sheet: &[u8],
+    finder: &[u32],
     fixed: Fixed,
     hidden: &[u32],
     out: &mut [u8],
@@ -179,12 +185,13 @@ fn visit_source(
     depth: u32,
 ) -> Visited
     ensures { λ r. ⌜ flow (r .whole) (lent (r .plan) (out .exit) (counts .exit) (marks .exit))
-        ≡ visitSource (given fixed (sheet .entry) (hidden .entry)) depth source transform (lent plan (out .entry) (counts .entry) (marks .entry)) ⌝ }
+        ≡ visitSource (given fixed (sheet .entry) (finder .entry) (hidden .entry)) depth source transform (lent plan (out .entry) (counts .entry) (marks .entry)) ⌝ }
 {
     match source {
         PreparedSource::Cell(cell) => {
             let next = visit_cell(
                 sheet,
+                finder,
                 fixed,
                 hidden,
                 out,
@@ -201,14 +208,32 @@ fn visit_source(
             }
         }
         PreparedSource::Geometry(number) => {
-            let next = pushes::push_geometry(sheet, fixed, hidden, out, plan, number, transform);
+            let next = pushes::push_geometry(
+                sheet,
+                finder,
+                fixed,
+                hidden,
+                out,
+                plan,
+                number,
+                transform,
+            );
             Visited {
                 plan: next,
                 whole: true,
             }
         }
         PreparedSource::Text(number) => {
-            let next = pushes::push_text(sheet, fixed, hidden, out, plan, number, transform);
+            let next = pushes::push_text(
+                sheet,
+                finder,
+                fixed,
+                hidden,
+                out,
+                plan,
+                number,
+                transform,
+            );
             Visited {
                 plan: next,
                 whole: true,
@@ -216,6 +241,7 @@ fn visit_source(
         }
         PreparedSource::Node(number) => pushes::push_node(
             sheet,
+            finder,
             fixed,
             hidden,
             out,
@@ -226,6 +252,7 @@ fn visit_source(
         PreparedSource::Reference(number) => {
             let next = visit_reference(
                 sheet,
+                finder,
                 fixed,
                 hidden,
                 out,

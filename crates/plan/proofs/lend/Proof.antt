@@ -8,26 +8,29 @@ use Rattle.plan_answer.proofs.Buffers.{zeros-enough}
 use Rattle.plan.proofs.lend.Statement.{statement}
 use Rattle.plan.proofs.lend.Tie as tie
 
-hidden : tie.Need-slice-aggregate-run
+finder : tie.Need-slice-aggregate-run
+finder c = sym (length-replicate {0} {A = ℕ} 50412 0)
+
+hidden : tie.Need-slice-aggregate-run-2
 hidden c = sym (length-replicate {0} {A = ℕ} 16384 0)
 
-counts : tie.Need-slice-aggregate-run-2
+counts : tie.Need-slice-aggregate-run-3
 counts c = sym (length-replicate {0} {A = ℕ} 131072 0)
 
-marks : tie.Need-slice-aggregate-run-3
+marks : tie.Need-slice-aggregate-run-4
 marks c = sym (length-replicate {0} {A = ℕ} 139264 0)
 
-text : tie.Need-slice-aggregate-run-4
-text c = sym (length-replicate {0} {A = ℕ} 65536 0)
+text : tie.Need-slice-aggregate-run-5
+text c = sym (length-replicate {0} {A = ℕ} 8192 0)
 
 room : tie.Need-run-requires
-room c κs = zeros-enough 65536 (lit≤ tt)
+room c κs = zeros-enough 8192 (lit≤ tt)
 
 kept : tie.Need-same-length
-kept c = c .before .before .before .before .before .before .before .before .run .kept .0
+kept c = c .before .before .before .before .before .before .before .before .before .run .kept .0
 
 kept-tape : tie.Need-same-length-2
-kept-tape c = c .before .before .before .before .before .before .before .before .run .kept .1 .1 .0
+kept-tape c = c .before .before .before .before .before .before .before .before .before .run .kept .1 .1 .1 .0
 
 pub lend-spec : {M : Type 1} → statement M
-lend-spec = tie.close (tie.spec hidden counts marks text room kept kept-tape (λ c. tt))
+lend-spec = tie.close (tie.spec finder hidden counts marks text room kept kept-tape (λ c. tt))

@@ -8,26 +8,29 @@ use Rattle.plan_answer.proofs.Buffers.{zeros-enough}
 use Rattle.plan_vectors.proofs.lend.Statement.{statement}
 use Rattle.plan_vectors.proofs.lend.Tie as tie
 
-hidden : tie.Need-slice-aggregate-run
+finder : tie.Need-slice-aggregate-run
+finder c = sym (length-replicate {0} {A = ℕ} 64 0)
+
+hidden : tie.Need-slice-aggregate-run-2
 hidden c = sym (length-replicate {0} {A = ℕ} 1024 0)
 
-tape : tie.Need-slice-aggregate-run-2
+tape : tie.Need-slice-aggregate-run-3
 tape c = sym (length-replicate {0} {A = ℕ} 262144 0)
 
-counts : tie.Need-slice-aggregate-run-3
+counts : tie.Need-slice-aggregate-run-4
 counts c = sym (length-replicate {0} {A = ℕ} 131072 0)
 
-marks : tie.Need-slice-aggregate-run-4
+marks : tie.Need-slice-aggregate-run-5
 marks c = sym (length-replicate {0} {A = ℕ} 139264 0)
 
-text : tie.Need-slice-aggregate-run-5
+text : tie.Need-slice-aggregate-run-6
 text c = sym (length-replicate {0} {A = ℕ} 4096 0)
 
 room : tie.Need-run-requires
 room c κs = zeros-enough 4096 (lit≤ tt)
 
 kept : tie.Need-same-length
-kept c = c .before .before .before .before .before .before .before .run .kept .0
+kept c = c .before .before .before .before .before .before .before .before .run .kept .0
 
 pub lend-spec : {M : Type 1} → statement M
-lend-spec = tie.close (tie.spec hidden tape counts marks text room kept (λ c. tt))
+lend-spec = tie.close (tie.spec finder hidden tape counts marks text room kept (λ c. tt))

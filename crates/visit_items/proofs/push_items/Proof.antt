@@ -17,35 +17,35 @@ use Rattle.visit_items.proofs.push_items.Tie as tie
 -- ---- the worlds that the three loops leave, and the way back to each
 
 abbrev start : tie.After-push-geometries → tie.Start
-start g = g .before .before .before .before .before
+start g = g .before .before .before .before .before .before
 
 abbrev lent-to : (g : tie.After-push-geometries) → Given (start g .args .fixed)
-lent-to g = given (start g .args .fixed) (start g .args .sheet) (start g .args .hidden)
+lent-to g = given (start g .args .fixed) (start g .args .sheet) (start g .args .finder) (start g .args .hidden)
 
 -- the cell's record
 abbrev read : tie.After-push-geometries → CellRecord
 read g = opened (now (start g .args .sheet)) (start g .args .cell)
 
 abbrev listed : tie.After-push-geometries → List ℕ → List ℕ → World (List ℕ)
-listed g k m = world (g .push-geometries .result .plan) (g .push-geometries .last .1 .1 .1 .0) k m
+listed g k m = world (g .push-geometries .result .plan) (g .push-geometries .last .1 .1 .1 .1 .0) k m
 
 abbrev to-geometries : tie.Else1 → tie.After-push-geometries
 to-geometries i = i .before .before .before .before .before
 
 abbrev listed-texts : tie.After-push-texts → List ℕ → List ℕ → World (List ℕ)
-listed-texts t k m = world (t .push-texts .result .plan) (t .push-texts .last .1 .1 .1 .0) k m
+listed-texts t k m = world (t .push-texts .result .plan) (t .push-texts .last .1 .1 .1 .1 .0) k m
 
 abbrev to-texts : tie.Else2 → tie.After-push-texts
 to-texts j = j .before .before .before .before .before
 
 abbrev listed-nodes : tie.After-push-nodes → List ℕ → List ℕ → World (List ℕ)
-listed-nodes n k m = world (n .push-nodes .result .plan) (n .push-nodes .last .1 .1 .1 .0) k m
+listed-nodes n k m = world (n .push-nodes .result .plan) (n .push-nodes .last .1 .1 .1 .1 .0) k m
 
-same-length : (n : tie.After-push-nodes) → length (n .push-nodes .last .1 .1 .1 .0) ≡ length (now (start (to-geometries (to-texts (n .before .before) .before .before)) .args .out))
+same-length : (n : tie.After-push-nodes) → length (n .push-nodes .last .1 .1 .1 .1 .0) ≡ length (now (start (to-geometries (to-texts (n .before .before) .before .before)) .args .out))
 same-length n =
     let t = to-texts (n .before .before) in
     let g = to-geometries (t .before .before) in
-    n .push-nodes .kept .1 .1 .1 .0 ∙ t .push-texts .kept .1 .1 .1 .0 ∙ g .push-geometries .kept .1 .1 .1 .0
+    n .push-nodes .kept .1 .1 .1 .1 .0 ∙ t .push-texts .kept .1 .1 .1 .1 .0 ∙ g .push-geometries .kept .1 .1 .1 .1 .0
 
 -- ---- the ways out
 

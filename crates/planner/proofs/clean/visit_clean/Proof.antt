@@ -16,10 +16,10 @@ returns c =
     let empty = run .before in
     let marks-zeroed = empty .before .before .before .before .before .before in
     let counts-zeroed = marks-zeroed .before .before .before .before in
-    let a = counts-zeroed .before .before .before .before .before .before .before .args in
-    clean (given (a .fixed) (a .sheet) (a .hidden)) _ (now (a .counts)) (now (a .marks)) _ _ _ _ _ _ _ _ _ (counts-zeroed .clear-counts .ensures) (marks-zeroed .clear-bytes .ensures) (empty .empty-plan .ensures) (run .visit-root .ensures)
-    (run .visit-root .kept .1 .1 .1 .1 .0 ∙ counts-zeroed .clear-counts .kept .0)
-    (run .visit-root .kept .1 .1 .1 .1 .1 .0 ∙ marks-zeroed .clear-bytes .kept .0)
+    let a = counts-zeroed .before .before .before .before .before .before .before .before .args in
+    clean (given (a .fixed) (a .sheet) (a .finder) (a .hidden)) _ (now (a .counts)) (now (a .marks)) _ _ _ _ _ _ _ _ _ (counts-zeroed .clear-counts .ensures) (marks-zeroed .clear-bytes .ensures) (empty .empty-plan .ensures) (run .visit-root .ensures)
+    (run .visit-root .kept .1 .1 .1 .1 .1 .0 ∙ counts-zeroed .clear-counts .kept .0)
+    (run .visit-root .kept .1 .1 .1 .1 .1 .1 .0 ∙ marks-zeroed .clear-bytes .kept .0)
     (counts-again .clear-counts2 .ensures) (marks-again .clear-bytes2 .ensures)
 
 pub visit-clean-spec : {M : Type 1} → statement M

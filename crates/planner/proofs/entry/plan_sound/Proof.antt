@@ -3,6 +3,7 @@
 use mathlib.Core.Path.{sym, _∙_}
 use native.Mathlib.Omega.{arith}
 use lib.Seq.{length-take-le}
+use Rattle.plan_rules.specs.Limits.{maxSceneObjects}
 use Rattle.plan_rules.specs.OnTape.{given}
 use Rattle.plan_rules.proofs.OutcomeTheorem.{query-refused, query-passed}
 use Rattle.check_query.proofs.Lent.{counts-lent, marks-lent}
@@ -50,7 +51,7 @@ planned c =
     let a = start .args in
     let counts = counts-lent _ _ _ _ _ _ (asked .query-refusal .ensures) (else1 .if1 .left) (counts-named .counts-named .ensures) in
     let marks = marks-lent _ _ _ _ _ _ (asked .query-refusal .ensures) (else1 .if1 .left) (marks-named .marks-named .ensures) in
-    sweep-delivered (given (a .fixed) (a .sheet) (a .hidden)) _ _ _ _ _ (counts-named .counts-named .ensures) (marks-named .marks-named .ensures) counts marks
+    sweep-delivered (given (record { options = a .query; «object_limit» = maxSceneObjects; counts = a .kinds }) (a .sheet) (a .finder) (a .hidden)) _ _ _ _ _ (counts-named .counts-named .ensures) (marks-named .marks-named .ensures) counts marks
     (omega (arith, start .good)) _ _ _ _ (at-visit-clean .visit-clean .ensures) (at-finish .finish .result) _ (at-finish .finish .ensures)
     ∙ sym (query-passed _ _ _ _ _ _ (sym (asked .query-refusal .ensures) ∙ else1 .if1 .left))
 

@@ -9,7 +9,7 @@ use Rattle.geometry.specs.declared.bbox.WorldBBox.{WorldBBox}
 use Rattle.geometry.specs.Bbox.{overlaps}
 use Rattle.records.specs.declared.PreparedCell.{PreparedCell}
 use Rattle.abstract_sheet.specs.Sheet.{cells, cellRecordAt}
-use Rattle.abstract_sheet.proofs.Lookup.{item-read}
+use Rattle.look_up.proofs.Looking.{item-looked}
 use Rattle.plan_rules.specs.World.{world}
 use Rattle.plan_rules.specs.declared.Reason.the-variants.{DepthZero}
 use Rattle.plan_rules.specs.OnTape.{Given, givenBytes, addLoad}
@@ -18,13 +18,13 @@ use borrow.Author.Needs.{needs}
 use Rattle.planner.proofs.root.load_root.Statement.{statement}
 use Rattle.planner.proofs.root.load_root.Tie as tie
 
-abbrev lent-to : (c : tie.After-look-up) → List ℕ → Given (c .before .before .before .args .fixed)
-lent-to c hidden = let a = c .before .before .before .args in givenBytes (a .fixed) (now (a .sheet)) hidden
+abbrev lent-to : (c : tie.After-look-up) → List ℕ → Given (c .before .before .before .before .args .fixed)
+lent-to c hidden = let a = c .before .before .before .before .args in givenBytes (a .fixed) (now (a .sheet)) (now (a .finder)) hidden
 
 missing : tie.Need-returns
 missing c =
     let at-look-up = c .before .before in
-    λ hidden k m. sym (root-missing (lent-to at-look-up hidden) _ (item-read cells _ _ (sym (at-look-up .look-up .ensures) ∙ c .enum-told .given .1)))
+    λ hidden k m. sym (root-missing (lent-to at-look-up hidden) _ (item-looked cells _ _ _ _ (at-look-up .look-up .ensures) (c .enum-told .given .1)))
 
 unboxed : tie.Need-returns-2
 unfolding cellRecordAt
@@ -32,7 +32,7 @@ unboxed c =
     let at-cell-at = c .before .before in
     let at-at = at-cell-at .before .before in
     let at-look-up = at-at .before .before in
-    let there = item-read cells _ _ (sym (at-look-up .look-up .ensures) ∙ at-at .at .given .1) in
+    let there = item-looked cells _ _ _ _ (at-look-up .look-up .ensures) (at-at .at .given .1) in
     let box = sym (ap (λ (r : PreparedCell). r .bbox) (at-cell-at .cell-at .ensures)) ∙ c .enum-told2 .given .1 in
     λ hidden k m. sym (root-unboxed (lent-to at-look-up hidden) _ there box)
 
@@ -45,8 +45,8 @@ outside c =
     let at-cell-at = at-bounds .before .before in
     let at-at = at-cell-at .before .before in
     let at-look-up = at-at .before .before in
-    let a = at-look-up .before .before .before .args in
-    let there = item-read cells _ _ (sym (at-look-up .look-up .ensures) ∙ at-at .at .given .1) in
+    let a = at-look-up .before .before .before .before .args in
+    let there = item-looked cells _ _ _ _ (at-look-up .look-up .ensures) (at-at .at .given .1) in
     let box = sym (ap (λ (r : PreparedCell). r .bbox) (at-cell-at .cell-at .ensures)) ∙ at-bounds .bounds .given .1 in
     let unseen = sym (ap (λ (b : WorldBBox). overlaps b (a .fixed .options .view)) (at-new .new .ensures)) ∙ sym (at-overlaps .overlaps .ensures) ∙ not-true _ (c .if1 .taken) in
     λ hidden k m. sym (root-outside (lent-to at-look-up hidden) _ there box unseen)
@@ -62,8 +62,8 @@ loaded c =
     let at-cell-at = at-bounds .before .before in
     let at-at = at-cell-at .before .before in
     let at-look-up = at-at .before .before in
-    let a = at-look-up .before .before .before .args in
-    let there = item-read cells _ _ (sym (at-look-up .look-up .ensures) ∙ at-at .at .given .1) in
+    let a = at-look-up .before .before .before .before .args in
+    let there = item-looked cells _ _ _ _ (at-look-up .look-up .ensures) (at-at .at .given .1) in
     let box = sym (ap (λ (r : PreparedCell). r .bbox) (at-cell-at .cell-at .ensures)) ∙ at-bounds .bounds .given .1 in
     let seen = sym (ap (λ (b : WorldBBox). overlaps b (a .fixed .options .view)) (at-new .new .ensures)) ∙ sym (at-overlaps .overlaps .ensures) ∙ not-false _ (at-if1 .if1 .left) in
     λ hidden k m.

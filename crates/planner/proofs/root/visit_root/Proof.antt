@@ -16,22 +16,22 @@ loaded : tie.Need-returns
 loaded c =
     let at-load-root = c .before .before in
     let at-if1 = at-load-root .before .before in
-    let a = at-if1 .before .before .before .before .before .before .before .args in
+    let a = at-if1 .before .before .before .before .before .before .before .before .args in
     let w = world (a .plan) (now (a .out)) (now (a .counts)) (now (a .marks)) in
     let nought : a .fixed .options .depth ≡ 0 = omega (arith, at-if1 .if1 .taken) in
     at-load-root .load-root .ensures (now (a .hidden)) (now (a .counts)) (now (a .marks))
-    ∙ sym (ap (λ (d : ℕ). visitRoot (given (a .fixed) (a .sheet) (a .hidden)) d w) nought)
+    ∙ sym (ap (λ (d : ℕ). visitRoot (given (a .fixed) (a .sheet) (a .finder) (a .hidden)) d w) nought)
 
 visited : tie.Need-returns-2
 visited c =
     let at-visit-cell = c .before .before .before .before .before .before in
     let at-identity = at-visit-cell .before in
     let at-if1 = at-identity .before .before .before .before in
-    let a = at-if1 .before .before .before .before .before .before .before .args in
+    let a = at-if1 .before .before .before .before .before .before .before .before .args in
     let w = world (a .plan) (now (a .out)) (now (a .counts)) (now (a .marks)) in
     at-visit-cell .visit-cell .ensures
-    ∙ ap (λ (p : Placement). visitCell (given (a .fixed) (a .sheet) (a .hidden)) (a .fixed .options .depth) (a .fixed .options .root) p w) (at-identity .identity .ensures)
-    ∙ sym (root-visited (given (a .fixed) (a .sheet) (a .hidden)) _ _ (omega (arith, at-if1 .if1 .left)))
+    ∙ ap (λ (p : Placement). visitCell (given (a .fixed) (a .sheet) (a .finder) (a .hidden)) (a .fixed .options .depth) (a .fixed .options .root) p w) (at-identity .identity .ensures)
+    ∙ sym (root-visited (given (a .fixed) (a .sheet) (a .finder) (a .hidden)) _ _ (omega (arith, at-if1 .if1 .left)))
 
 pub visit-root-spec : {M : Type 1} → statement M
 visit-root-spec =

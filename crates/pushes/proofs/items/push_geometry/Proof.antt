@@ -11,8 +11,8 @@ use Rattle.geometry.specs.declared.bbox.WorldBBox.{WorldBBox}
 use Rattle.screen.specs.declared.ScreenSize.{ScreenSize}
 use Rattle.geometry.specs.Bbox.{transformBbox, overlaps}
 use Rattle.screen.specs.Screen.{screenSize, isSubpixel, isDenseBatch}
-use Rattle.abstract_sheet.specs.Sheet.{sheetOf, geometries}
-use Rattle.abstract_sheet.proofs.Lookup.{item-read}
+use Rattle.abstract_sheet.specs.Sheet.{geometries}
+use Rattle.look_up.proofs.Looking.{item-looked}
 use Rattle.plan_rules.specs.World.{Query, hides, detailBudgetExhausted, World, world}
 use Rattle.plan_rules.specs.declared.Reason.{Reason}
 use Rattle.records.specs.Sources.{noLabel}
@@ -26,10 +26,10 @@ use Rattle.pushes.proofs.items.push_geometry.Tie as tie
 
 -- the batch is read: its start, the query, the world and the placed box
 abbrev start : tie.After-geometry-at → tie.Start
-start c = c .before .before .before .before .before .before .before .before
+start c = c .before .before .before .before .before .before .before .before .before
 
 abbrev lent-to : (c : tie.After-geometry-at) → Given (start c .args .fixed)
-lent-to c = given (start c .args .fixed) (start c .args .sheet) (start c .args .hidden)
+lent-to c = given (start c .args .fixed) (start c .args .sheet) (start c .args .finder) (start c .args .hidden)
 
 abbrev asks : tie.After-geometry-at → Query
 asks c = query (lent-to c)
@@ -40,10 +40,10 @@ entered c k m = world (start c .args .plan) (now (start c .args .out)) k m
 abbrev placed : tie.After-geometry-at → WorldBBox
 placed c = transformBbox (start c .args .transform) (c .geometry-at .result .bbox)
 
-there : (c : tie.After-geometry-at) → sheetOf (now (start c .args .sheet)) .geometry (start c .args .number) ≡ some (c .geometry-at .result)
+there : (c : tie.After-geometry-at) → lent-to c .sheet .geometry (start c .args .number) ≡ some (c .geometry-at .result)
 there c =
     let at-at = c .before .before in
-    item-read geometries _ _ (sym (at-at .before .before .look-up .ensures) ∙ at-at .at .given .1) ∙ ap some (sym (c .geometry-at .ensures))
+    item-looked geometries _ _ _ _ (at-at .before .before .look-up .ensures) (at-at .at .given .1) ∙ ap some (sym (c .geometry-at .ensures))
 
 asked-hidden : (c : tie.After-is-hidden) → hides (asks (c .before)) (c .before .geometry-at .result .layer) (c .before .geometry-at .result .«data_type») ≡ c .is-hidden .result
 asked-hidden c = sym (c .is-hidden .ensures (start (c .before) .args .fixed))
@@ -106,8 +106,8 @@ proxied c y k m = ap (λ (b : WorldBBox). addLoad y noLabel b (entered (seen-bat
 
 missing : tie.Need-returns
 missing c =
-    let a = c .before .before .before .before .before .before .args in
-    λ k m. sym (geometry-missing (given (a .fixed) (a .sheet) (a .hidden)) _ _ _ (item-read geometries _ _ (sym (c .before .before .look-up .ensures) ∙ c .enum-told .given .1)))
+    let a = c .before .before .before .before .before .before .before .args in
+    λ k m. sym (geometry-missing (given (a .fixed) (a .sheet) (a .finder) (a .hidden)) _ _ _ (item-looked geometries _ _ _ _ (c .before .before .look-up .ensures) (c .enum-told .given .1)))
 
 hidden : tie.Need-returns-2
 hidden c = λ k m. sym (geometry-hidden (lent-to (c .before .before)) _ _ _ (there (c .before .before)) (asked-hidden (c .before) ∙ c .if1 .taken))

@@ -7,8 +7,8 @@ use borrow.Author.Tests.{not-true, not-false}
 use Rattle.geometry.specs.declared.placement.DVec2.{DVec2}
 use Rattle.geometry.specs.Placement.{transformPoint2}
 use Rattle.geometry.specs.Bbox.{pointInBbox}
-use Rattle.abstract_sheet.specs.Sheet.{sheetOf, texts}
-use Rattle.abstract_sheet.proofs.Lookup.{item-read}
+use Rattle.abstract_sheet.specs.Sheet.{texts}
+use Rattle.look_up.proofs.Looking.{item-looked}
 use Rattle.plan_rules.specs.Event.{text}
 use Rattle.plan_rules.specs.World.{hides, world}
 use Rattle.plan_rules.specs.OnTape.{Given, given, query, say}
@@ -20,15 +20,15 @@ use Rattle.pushes.proofs.items.push_text.Tie as tie
 -- ---- what is known, stated at the first place that knows it
 
 abbrev start : tie.After-text-at → tie.Start
-start c = c .before .before .before .before .before .before .before .before
+start c = c .before .before .before .before .before .before .before .before .before
 
 abbrev lent-to : (c : tie.After-text-at) → Given (start c .args .fixed)
-lent-to c = given (start c .args .fixed) (start c .args .sheet) (start c .args .hidden)
+lent-to c = given (start c .args .fixed) (start c .args .sheet) (start c .args .finder) (start c .args .hidden)
 
-there : (c : tie.After-text-at) → sheetOf (now (start c .args .sheet)) .text (start c .args .number) ≡ some (c .text-at .result)
+there : (c : tie.After-text-at) → lent-to c .sheet .text (start c .args .number) ≡ some (c .text-at .result)
 there c =
     let at-at = c .before .before in
-    item-read texts _ _ (sym (at-at .before .before .look-up .ensures) ∙ at-at .at .given .1) ∙ ap some (sym (c .text-at .ensures))
+    item-looked texts _ _ _ _ (at-at .before .before .look-up .ensures) (at-at .at .given .1) ∙ ap some (sym (c .text-at .ensures))
 
 asked-hidden : (c : tie.After-is-hidden) → hides (query (lent-to (c .before))) (c .before .text-at .result .layer) (c .before .text-at .result .«data_type») ≡ c .is-hidden .result
 asked-hidden c = sym (c .is-hidden .ensures (start (c .before) .args .fixed))
@@ -48,8 +48,8 @@ asked-inside c = sym (c .point-in-bbox .ensures ∙ ap (λ (v : DVec2). pointInB
 
 missing : tie.Need-returns
 missing c =
-    let a = c .before .before .before .before .before .before .args in
-    λ k m. sym (text-missing (given (a .fixed) (a .sheet) (a .hidden)) _ _ _ (item-read texts _ _ (sym (c .before .before .look-up .ensures) ∙ c .enum-told .given .1)))
+    let a = c .before .before .before .before .before .before .before .args in
+    λ k m. sym (text-missing (given (a .fixed) (a .sheet) (a .finder) (a .hidden)) _ _ _ (item-looked texts _ _ _ _ (c .before .before .look-up .ensures) (c .enum-told .given .1)))
 
 hidden : tie.Need-returns-2
 hidden c = λ k m. sym (text-hidden (lent-to (c .before .before)) _ _ _ (there (c .before .before)) (asked-hidden (c .before) ∙ c .if1 .taken))

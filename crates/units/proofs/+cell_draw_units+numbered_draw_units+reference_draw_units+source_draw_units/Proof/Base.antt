@@ -31,45 +31,45 @@ use Rattle.units.proofs.source_draw_units.Reads as source
 use Rattle.units.proofs.source_draw_units.Kinds as source-kinds
 use Rattle.units.proofs.+cell_draw_units+numbered_draw_units+reference_draw_units+source_draw_units.Lts-source_draw_units as source-lts
 
--- ---- the falling number: the depth is the sixth argument
+-- ---- the falling number: the depth is the seventh argument
 
-abbrev pub μ-reference : Measures 3 reference-kinds.ps ℕ
-μ-reference κs a = 4 * (a .1 .1 .1 .1 .1 .0) + 1
+abbrev pub μ-reference : Measures 4 reference-kinds.ps ℕ
+μ-reference κs a = 4 * (a .1 .1 .1 .1 .1 .1 .0) + 1
 
-abbrev pub μ-numbered : Measures 3 numbered-kinds.ps ℕ
-μ-numbered κs a = 4 * (a .1 .1 .1 .1 .1 .0) + 2
+abbrev pub μ-numbered : Measures 4 numbered-kinds.ps ℕ
+μ-numbered κs a = 4 * (a .1 .1 .1 .1 .1 .1 .0) + 2
 
-abbrev pub μ-cell : Measures 3 cell-kinds.ps ℕ
-μ-cell κs a = 4 * (a .1 .1 .1 .1 .1 .0) + 3
+abbrev pub μ-cell : Measures 4 cell-kinds.ps ℕ
+μ-cell κs a = 4 * (a .1 .1 .1 .1 .1 .1 .0) + 3
 
-abbrev pub μ-source : Measures 3 source-kinds.ps ℕ
-μ-source κs a = 4 * (a .1 .1 .1 .1 .1 .0) + 4
+abbrev pub μ-source : Measures 4 source-kinds.ps ℕ
+μ-source κs a = 4 * (a .1 .1 .1 .1 .1 .1 .0) + 4
 
 -- ---- a call at the number t, and one below it
 
-abbrev pub cell-at : ℕ → In 3 cell-kinds.ps
-cell-at t = and 3 cell-kinds.ps (is 3 cell-kinds.ps μ-cell t) cell.Pre
+abbrev pub cell-at : ℕ → In 4 cell-kinds.ps
+cell-at t = and 4 cell-kinds.ps (is 4 cell-kinds.ps μ-cell t) cell.Pre
 
-abbrev cell-below : ℕ → In 3 cell-kinds.ps
-cell-below t = and 3 cell-kinds.ps (falls 3 cell-kinds.ps _<_ μ-cell t) cell.Pre
+abbrev cell-below : ℕ → In 4 cell-kinds.ps
+cell-below t = and 4 cell-kinds.ps (falls 4 cell-kinds.ps _<_ μ-cell t) cell.Pre
 
-abbrev pub numbered-at : ℕ → In 3 numbered-kinds.ps
-numbered-at t = and 3 numbered-kinds.ps (is 3 numbered-kinds.ps μ-numbered t) numbered.Pre
+abbrev pub numbered-at : ℕ → In 4 numbered-kinds.ps
+numbered-at t = and 4 numbered-kinds.ps (is 4 numbered-kinds.ps μ-numbered t) numbered.Pre
 
-abbrev numbered-below : ℕ → In 3 numbered-kinds.ps
-numbered-below t = and 3 numbered-kinds.ps (falls 3 numbered-kinds.ps _<_ μ-numbered t) numbered.Pre
+abbrev numbered-below : ℕ → In 4 numbered-kinds.ps
+numbered-below t = and 4 numbered-kinds.ps (falls 4 numbered-kinds.ps _<_ μ-numbered t) numbered.Pre
 
-abbrev pub reference-at : ℕ → In 3 reference-kinds.ps
-reference-at t = and 3 reference-kinds.ps (is 3 reference-kinds.ps μ-reference t) reference.Pre
+abbrev pub reference-at : ℕ → In 4 reference-kinds.ps
+reference-at t = and 4 reference-kinds.ps (is 4 reference-kinds.ps μ-reference t) reference.Pre
 
-abbrev reference-below : ℕ → In 3 reference-kinds.ps
-reference-below t = and 3 reference-kinds.ps (falls 3 reference-kinds.ps _<_ μ-reference t) reference.Pre
+abbrev reference-below : ℕ → In 4 reference-kinds.ps
+reference-below t = and 4 reference-kinds.ps (falls 4 reference-kinds.ps _<_ μ-reference t) reference.Pre
 
-abbrev pub source-at : ℕ → In 3 source-kinds.ps
-source-at t = and 3 source-kinds.ps (is 3 source-kinds.ps μ-source t) source.Pre
+abbrev pub source-at : ℕ → In 4 source-kinds.ps
+source-at t = and 4 source-kinds.ps (is 4 source-kinds.ps μ-source t) source.Pre
 
-abbrev source-below : ℕ → In 3 source-kinds.ps
-source-below t = and 3 source-kinds.ps (falls 3 source-kinds.ps _<_ μ-source t) source.Pre
+abbrev source-below : ℕ → In 4 source-kinds.ps
+source-below t = and 4 source-kinds.ps (falls 4 source-kinds.ps _<_ μ-source t) source.Pre
 
 -- ---- what the calls ask and teach
 

@@ -9,8 +9,8 @@ module _ (t : ℕ) where
   pub empty : lts.Need-returns (reference-claims t) (reference-at t) reference.Post
   empty c =
       let after-grid-count = c .before in
-      let start = after-grid-count .before .before .before .before in
-      Exits.reference-empty (start .args .sheet .now) (start .args .cells) (start .args .depth) (start .args .reference) (start .args .counts .now) (start .args .marks .now)
+      let start = after-grid-count .before .before .before .before .before in
+      Exits.reference-empty (start .args .sheet .now) (start .args .finder .now) (start .args .kinds) (start .args .depth) (start .args .reference) (start .args .counts .now) (start .args .marks .now)
       (after-grid-count .grid-count .result) (after-grid-count .grid-count .ensures) (c .if1 .taken)
 
   pub shallow : lts.Need-returns-2 (reference-claims t) (reference-at t) reference.Post
@@ -18,8 +18,8 @@ module _ (t : ℕ) where
       let after-if2 = c .before in
       let after-if1 = after-if2 .before in
       let after-grid-count = after-if1 .before in
-      let start = after-grid-count .before .before .before .before in
-      Exits.reference-shallow (start .args .sheet .now) (start .args .cells) (start .args .depth) (start .args .reference) (start .args .counts .now) (start .args .marks .now)
+      let start = after-grid-count .before .before .before .before .before in
+      Exits.reference-shallow (start .args .sheet .now) (start .args .finder .now) (start .args .kinds) (start .args .depth) (start .args .reference) (start .args .counts .now) (start .args .marks .now)
       (after-grid-count .grid-count .result) (after-grid-count .grid-count .ensures) (after-if1 .if1 .left)
       (c .scaled .result) (after-if2 .if2 .taken) (c .scaled .ensures)
 
@@ -29,7 +29,7 @@ module _ (t : ℕ) where
       let after-if2 = after-source-draw-units .before .before .before in
       let after-if1 = after-if2 .before in
       let after-grid-count = after-if1 .before in
-      let start = after-grid-count .before .before .before .before in
-      Exits.reference-deep (start .args .sheet .now) (start .args .cells) (start .args .depth) (start .args .reference) (start .args .counts .now) (start .args .marks .now)
+      let start = after-grid-count .before .before .before .before .before in
+      Exits.reference-deep (start .args .sheet .now) (start .args .finder .now) (start .args .kinds) (start .args .depth) (start .args .reference) (start .args .counts .now) (start .args .marks .now)
       (after-grid-count .grid-count .result) (after-grid-count .grid-count .ensures) (after-if1 .if1 .left)
       (after-source-draw-units .source-draw-units .result) (c .scaled2 .result) _ _ (after-if2 .if2 .left) (after-source-draw-units .source-draw-units .ensures) (c .scaled2 .ensures)

@@ -24,7 +24,7 @@ exhausted c =
 next-fits : tie.Need-add-i Inv μ
 next-fits c =
     let test = c .before .before .before .before .before .before .before in
-    record { fits = omega (arith, test .loop-test .taken, test .before .before .before .before .before .good .1 .1 .1 .1 .1 .0) }
+    record { fits = omega (arith, test .loop-test .taken, test .before .before .before .before .before .before .good .1 .1 .1 .1 .1 .1 .0) }
 
 loop-again : tie.Need-loop-again Inv μ
 loop-again c =
@@ -32,7 +32,7 @@ loop-again c =
     let read = pushed .before .before in
     let asked = read .before .before in
     CellLoop.goes (asked .before .before .loop .inv) (asked .before .loop-test .taken) (asked .detail-budget-exhausted .ensures) (read .before .if1 .left)
-    (read .cell-geometry-at .ensures) (λ k m. ap go (sym (pushed .push-geometry .ensures k m))) (pushed .push-geometry .kept .1 .1 .1 .0)
+    (read .cell-geometry-at .ensures) (λ k m. ap go (sym (pushed .push-geometry .ensures k m))) (pushed .push-geometry .kept .1 .1 .1 .1 .0)
 
 pub push-geometries-spec : {M : Type 1} → statement M
 push-geometries-spec =

@@ -27,15 +27,15 @@ exhausted c =
 
 -- a node by the `bool` that its push returned
 by-flow : (c : tie.After-push-node Inv μ) {b : Bool} → c .push-node .result .whole ≡ b → (k m : List ℕ)
-    → let v = world (c .push-node .result .plan) (c .push-node .last .1 .1 .1 .0) k m in flow (c .push-node .result .whole) v ≡ flow b v
-by-flow c e k m = ap (λ (b : Bool). flow b (world (c .push-node .result .plan) (c .push-node .last .1 .1 .1 .0) k m)) e
+    → let v = world (c .push-node .result .plan) (c .push-node .last .1 .1 .1 .1 .0) k m in flow (c .push-node .result .whole) v ≡ flow b v
+by-flow c e k m = ap (λ (b : Bool). flow b (world (c .push-node .result .plan) (c .push-node .last .1 .1 .1 .1 .0) k m)) e
 
 same-length : tie.Need-same-length-2 Inv μ
 same-length c =
     let added = c .before .before in
     let pushed = added .before .before .before .before .before .before .before in
     let read = pushed .before .before in
-    added .load-cell2 .kept .0 ∙ pushed .push-node .kept .1 .1 .1 .0 ∙ read .before .before .before .before .loop .inv .kept
+    added .load-cell2 .kept .0 ∙ pushed .push-node .kept .1 .1 .1 .1 .0 ∙ read .before .before .before .before .loop .inv .kept
 
 halts : tie.Need-returns-2 Inv μ
 halts c =
@@ -50,7 +50,7 @@ halts c =
 next-fits : tie.Need-add-i Inv μ
 next-fits c =
     let test = c .before .before .before .before .before .before .before .before .before .before in
-    record { fits = omega (arith, test .loop-test .taken, test .before .before .before .before .before .good .1 .1 .1 .1 .1 .0) }
+    record { fits = omega (arith, test .loop-test .taken, test .before .before .before .before .before .before .good .1 .1 .1 .1 .1 .1 .0) }
 
 loop-again : tie.Need-loop-again Inv μ
 loop-again c =
@@ -58,7 +58,7 @@ loop-again c =
     let read = pushed .before .before in
     let asked = read .before .before in
     CellLoop.goes (asked .before .before .loop .inv) (asked .before .loop-test .taken) (asked .detail-budget-exhausted .ensures) (read .before .if1 .left)
-    (read .cell-node-at .ensures) (λ k m. sym (pushed .push-node .ensures k m) ∙ by-flow pushed (not-false _ (c .if2 .left)) k m) (pushed .push-node .kept .1 .1 .1 .0)
+    (read .cell-node-at .ensures) (λ k m. sym (pushed .push-node .ensures k m) ∙ by-flow pushed (not-false _ (c .if2 .left)) k m) (pushed .push-node .kept .1 .1 .1 .1 .0)
 
 pub push-nodes-spec : {M : Type 1} → statement M
 push-nodes-spec =

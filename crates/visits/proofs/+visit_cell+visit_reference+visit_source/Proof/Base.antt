@@ -37,36 +37,36 @@ use Rattle.visits.proofs.visit_source.Reads as visit-source
 use Rattle.visits.proofs.visit_source.Kinds as visit-source-kinds
 use Rattle.visits.proofs.+visit_cell+visit_reference+visit_source.Lts-visit_source as visit-source-lts
 
--- ---- the falling number: the depth is the tenth argument
+-- ---- the falling number: the depth is the eleventh argument
 
-abbrev pub μ-visit-reference : Measures 5 visit-reference-kinds.ps ℕ
-μ-visit-reference κs a = 3 * (a .1 .1 .1 .1 .1 .1 .1 .1 .1 .0) + 1
+abbrev pub μ-visit-reference : Measures 6 visit-reference-kinds.ps ℕ
+μ-visit-reference κs a = 3 * (a .1 .1 .1 .1 .1 .1 .1 .1 .1 .1 .0) + 1
 
-abbrev pub μ-visit-cell : Measures 5 visit-cell-kinds.ps ℕ
-μ-visit-cell κs a = 3 * (a .1 .1 .1 .1 .1 .1 .1 .1 .1 .0) + 2
+abbrev pub μ-visit-cell : Measures 6 visit-cell-kinds.ps ℕ
+μ-visit-cell κs a = 3 * (a .1 .1 .1 .1 .1 .1 .1 .1 .1 .1 .0) + 2
 
-abbrev pub μ-visit-source : Measures 5 visit-source-kinds.ps ℕ
-μ-visit-source κs a = 3 * (a .1 .1 .1 .1 .1 .1 .1 .1 .1 .0) + 3
+abbrev pub μ-visit-source : Measures 6 visit-source-kinds.ps ℕ
+μ-visit-source κs a = 3 * (a .1 .1 .1 .1 .1 .1 .1 .1 .1 .1 .0) + 3
 
 -- ---- a call at the number t, and one below it
 
-abbrev pub visit-cell-at : ℕ → In 5 visit-cell-kinds.ps
-visit-cell-at t = and 5 visit-cell-kinds.ps (is 5 visit-cell-kinds.ps μ-visit-cell t) visit-cell.Pre
+abbrev pub visit-cell-at : ℕ → In 6 visit-cell-kinds.ps
+visit-cell-at t = and 6 visit-cell-kinds.ps (is 6 visit-cell-kinds.ps μ-visit-cell t) visit-cell.Pre
 
-abbrev visit-cell-below : ℕ → In 5 visit-cell-kinds.ps
-visit-cell-below t = and 5 visit-cell-kinds.ps (falls 5 visit-cell-kinds.ps _<_ μ-visit-cell t) visit-cell.Pre
+abbrev visit-cell-below : ℕ → In 6 visit-cell-kinds.ps
+visit-cell-below t = and 6 visit-cell-kinds.ps (falls 6 visit-cell-kinds.ps _<_ μ-visit-cell t) visit-cell.Pre
 
-abbrev pub visit-reference-at : ℕ → In 5 visit-reference-kinds.ps
-visit-reference-at t = and 5 visit-reference-kinds.ps (is 5 visit-reference-kinds.ps μ-visit-reference t) visit-reference.Pre
+abbrev pub visit-reference-at : ℕ → In 6 visit-reference-kinds.ps
+visit-reference-at t = and 6 visit-reference-kinds.ps (is 6 visit-reference-kinds.ps μ-visit-reference t) visit-reference.Pre
 
-abbrev visit-reference-below : ℕ → In 5 visit-reference-kinds.ps
-visit-reference-below t = and 5 visit-reference-kinds.ps (falls 5 visit-reference-kinds.ps _<_ μ-visit-reference t) visit-reference.Pre
+abbrev visit-reference-below : ℕ → In 6 visit-reference-kinds.ps
+visit-reference-below t = and 6 visit-reference-kinds.ps (falls 6 visit-reference-kinds.ps _<_ μ-visit-reference t) visit-reference.Pre
 
-abbrev pub visit-source-at : ℕ → In 5 visit-source-kinds.ps
-visit-source-at t = and 5 visit-source-kinds.ps (is 5 visit-source-kinds.ps μ-visit-source t) visit-source.Pre
+abbrev pub visit-source-at : ℕ → In 6 visit-source-kinds.ps
+visit-source-at t = and 6 visit-source-kinds.ps (is 6 visit-source-kinds.ps μ-visit-source t) visit-source.Pre
 
-abbrev visit-source-below : ℕ → In 5 visit-source-kinds.ps
-visit-source-below t = and 5 visit-source-kinds.ps (falls 5 visit-source-kinds.ps _<_ μ-visit-source t) visit-source.Pre
+abbrev visit-source-below : ℕ → In 6 visit-source-kinds.ps
+visit-source-below t = and 6 visit-source-kinds.ps (falls 6 visit-source-kinds.ps _<_ μ-visit-source t) visit-source.Pre
 
 -- ---- what the calls ask and teach
 

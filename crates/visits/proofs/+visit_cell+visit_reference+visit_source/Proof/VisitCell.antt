@@ -18,15 +18,15 @@ use Rattle.visits.proofs.+visit_cell+visit_reference+visit_source.Lts-v
 use Rattle.visits.proofs.+visit_cell+visit_reference+visit_source.Proof.Base.{visit-cell-at, visit-cell-claims}
 
 abbrev pub Inv-loop : lts.InvT-loop
-Inv-loop sheet fixed hidden out₀ counts₀ marks₀ cell transform depth at open-cell references next₀ i₀ out counts marks next i =
+Inv-loop sheet finder fixed hidden out₀ counts₀ marks₀ cell transform depth at open-cell references next₀ i₀ out counts marks next i =
     (i ≤ references)
     × (length out ≡ length out₀)
     × (length counts ≡ length counts₀)
     × (length marks ≡ length marks₀)
-    × (each (Cells.turn sheet fixed hidden depth open-cell) references 0 (world next₀ out₀ counts₀ marks₀) ≡ each (Cells.turn sheet fixed hidden depth open-cell) (references - i) i (world next out counts marks))
+    × (each (Cells.turn sheet finder fixed hidden depth open-cell) references 0 (world next₀ out₀ counts₀ marks₀) ≡ each (Cells.turn sheet finder fixed hidden depth open-cell) (references - i) i (world next out counts marks))
 
 abbrev pub μ-loop : lts.MeasureT-loop
-μ-loop sheet fixed hidden out₀ counts₀ marks₀ cell transform depth at open-cell references next₀ i₀ out counts marks next i = references - i
+μ-loop sheet finder fixed hidden out₀ counts₀ marks₀ cell transform depth at open-cell references next₀ i₀ out counts marks next i = references - i
 
 module _ (t : ℕ) where
   -- ---- the places on the way, and the ways back
@@ -48,10 +48,10 @@ module _ (t : ℕ) where
 
   -- what the plan is given
   abbrev lent-to : (s : Start) → Given (s .args .fixed)
-  lent-to s = given (s .args .fixed) (s .args .sheet) (s .args .hidden)
+  lent-to s = given (s .args .fixed) (s .args .sheet) (s .args .finder) (s .args .hidden)
 
   abbrev start : Looked → Start
-  start c = c .before .before .before .before .before .before
+  start c = c .before .before .before .before .before .before .before
 
   abbrev looked : Entered → Looked
   looked c = c .before .before .before .before .before .before .before
@@ -82,7 +82,7 @@ module _ (t : ℕ) where
   missing c =
       let s = start (c .before .before) in
       let a = s .args in
-      Cells.cell-missing (a .sheet .now) (a .fixed) (a .hidden .now) (a .depth) (a .cell) (a .transform) _ (sym (c .before .before .look-up .ensures) ∙ c .enum-told .given .1)
+      Cells.cell-missing (a .sheet .now) (a .finder .now) (a .fixed) (a .hidden .now) (a .depth) (a .cell) (a .transform) _ (c .before .before .look-up .ensures) (c .enum-told .given .1)
 
   pub not-entered : lts.Need-returns-2 (visit-cell-claims t) (visit-cell-at t) visit-cell.Post Inv-loop μ-loop
   not-entered c =
@@ -90,8 +90,8 @@ module _ (t : ℕ) where
       let at-at = e .before .before .before .before .before in
       let s = start (looked e) in
       let a = s .args in
-      Cells.cell-not-entered (a .sheet .now) (a .fixed) (a .hidden .now) (a .depth) (a .cell) (a .transform) _
-      (at-at .at .given .0 .0) (sym (looked e .look-up .ensures) ∙ at-at .at .given .1) (e .before .before .before .cell-at .result) (e .before .before .before .cell-at .ensures) (e .enter-cell .result) _
+      Cells.cell-not-entered (a .sheet .now) (a .finder .now) (a .fixed) (a .hidden .now) (a .depth) (a .cell) (a .transform) _
+      (looked e .look-up .ensures) (at-at .at .given .0 .0) (at-at .at .given .1) (e .before .before .before .cell-at .result) (e .before .before .before .cell-at .ensures) (e .enter-cell .result) _
       (e .enter-cell .ensures (lent-to s) (visit s) (cellRecordWith (a .sheet .now) (at-at .at .given .0 .0) (e .before .before .before .cell-at .result)) (a .counts .now) refl)
       (c .if1 .taken)
 
@@ -116,12 +116,12 @@ module _ (t : ℕ) where
       let after-loop = after-loop-test .before in
       let a = entry after-loop .args in (
         omega arith,
-        visited .visit-reference .kept .1 .1 .1 .0 ∙ after-loop .loop .inv .1,
-        visited .visit-reference .kept .1 .1 .1 .1 .0 ∙ after-loop .loop .inv .2,
-        visited .visit-reference .kept .1 .1 .1 .1 .1 .0 ∙ after-loop .loop .inv .3,
+        visited .visit-reference .kept .1 .1 .1 .1 .0 ∙ after-loop .loop .inv .1,
+        visited .visit-reference .kept .1 .1 .1 .1 .1 .0 ∙ after-loop .loop .inv .2,
+        visited .visit-reference .kept .1 .1 .1 .1 .1 .1 .0 ∙ after-loop .loop .inv .3,
         after-loop .loop .inv .4 ∙ each-go _ _ (after-loop .loop .i) _ _ (after-loop-test .loop-test .taken)
-            (Cells.turn-goes (a .sheet .now) (a .fixed) (a .hidden .now) (a .depth) (open-cell after-loop) (after-loop .loop .i) (world (after-loop .loop .next) (after-loop .loop .out) (after-loop .loop .counts) (after-loop .loop .marks))
-            (world (visited .visit-reference .result) (visited .visit-reference .last .1 .1 .1 .0) (visited .visit-reference .last .1 .1 .1 .1 .0) (visited .visit-reference .last .1 .1 .1 .1 .1 .0))
+            (Cells.turn-goes (a .sheet .now) (a .finder .now) (a .fixed) (a .hidden .now) (a .depth) (open-cell after-loop) (after-loop .loop .i) (world (after-loop .loop .next) (after-loop .loop .out) (after-loop .loop .counts) (after-loop .loop .marks))
+            (world (visited .visit-reference .result) (visited .visit-reference .last .1 .1 .1 .1 .0) (visited .visit-reference .last .1 .1 .1 .1 .1 .0) (visited .visit-reference .last .1 .1 .1 .1 .1 .1 .0))
             (read .cell-reference-at .result)
             (sym (asked .detail-budget-exhausted .ensures (a .hidden .now)) ∙ after-if2 .if2 .left)
             (read .cell-reference-at .ensures) (visited .visit-reference .ensures)),
@@ -130,7 +130,7 @@ module _ (t : ℕ) where
   -- however the loop ends, the cell is closed, and its visit is over
   closed : (c : Head) (plan : ScenePlan) (o k m m′ : List ℕ)
       → let a = entry c .args in
-      ending (each (Cells.turn (a .sheet .now) (a .fixed) (a .hidden .now) (a .depth) (open-cell c)) (listed c .push-items .result .references - c .loop .i) (c .loop .i) (world (c .loop .next) (c .loop .out) (c .loop .counts) (c .loop .marks))) ≡ world plan o k m
+      ending (each (Cells.turn (a .sheet .now) (a .finder .now) (a .fixed) (a .hidden .now) (a .depth) (open-cell c)) (listed c .push-items .result .references - c .loop .i) (c .loop .i) (world (c .loop .next) (c .loop .out) (c .loop .counts) (c .loop .marks))) ≡ world plan o k m
       → m′ ≡ set m (openPlace (a .fixed .counts .cells) (a .cell)) 0
       → world plan o k m′ ≡ visitCell (lent-to (entry c)) (a .depth) (a .cell) (a .transform) (world (a .plan) (a .out .now) (a .counts .now) (a .marks .now))
   closed c plan o k m m′ ended removed =
@@ -139,8 +139,8 @@ module _ (t : ℕ) where
       let at-at = e .before .before .before .before .before in
       let s = entry c in
       let a = s .args in
-      Cells.cell-visited (a .sheet .now) (a .fixed) (a .hidden .now) (a .depth) (a .cell) (a .transform) _
-      (at-at .at .given .0 .0) (sym (looked e .look-up .ensures) ∙ at-at .at .given .1) (e .before .before .before .cell-at .result) (e .before .before .before .cell-at .ensures) (e .enter-cell .result) _
+      Cells.cell-visited (a .sheet .now) (a .finder .now) (a .fixed) (a .hidden .now) (a .depth) (a .cell) (a .transform) _
+      (looked e .look-up .ensures) (at-at .at .given .0 .0) (at-at .at .given .1) (e .before .before .before .cell-at .result) (e .before .before .before .cell-at .ensures) (e .enter-cell .result) _
       (e .enter-cell .ensures (lent-to s) (visit s) (cellRecordWith (a .sheet .now) (at-at .at .given .0 .0) (e .before .before .before .cell-at .result)) (a .counts .now) refl)
       (l .before .before .if1 .left) (l .push-items .result .references) _ plan o k m m′
       (l .push-items .ensures (visit s) (a .counts .now) (e .enter-cell .last .1 .1 .0)) (ap ending (c .loop .inv .4) ∙ ended) removed
@@ -150,7 +150,7 @@ module _ (t : ℕ) where
       let loaded = c .before .before .before .before .before .before in
       let after-loop = loaded .before .before .before .before .before in
       let l = listed after-loop in
-      loaded .load-cell .kept .0 ∙ after-loop .loop .inv .1 ∙ l .push-items .kept .1 .1 .1 .0 ∙ entered l .enter-cell .kept .1 .0
+      loaded .load-cell .kept .0 ∙ after-loop .loop .inv .1 ∙ l .push-items .kept .1 .1 .1 .1 .0 ∙ entered l .enter-cell .kept .1 .0
 
   pub exhausted : lts.Need-returns-3 (visit-cell-claims t) (visit-cell-at t) visit-cell.Post Inv-loop μ-loop
   exhausted c =
@@ -164,7 +164,7 @@ module _ (t : ℕ) where
       let boxed = world (loaded .load-cell .result) (loaded .load-cell .last .0) (after-loop .loop .counts) (after-loop .loop .marks) in
       closed after-loop (boxed .state) (boxed .out) (after-loop .loop .counts) (after-loop .loop .marks) (removed .stack-remove .last .0)
       (ap ending (each-halt _ _ (after-loop .loop .i) _ boxed (after-loop-test .loop-test .taken)
-      (Cells.turn-exhausted (a .sheet .now) (a .fixed) (a .hidden .now) (a .depth) (open-cell after-loop) (after-loop .loop .i) (world (after-loop .loop .next) (after-loop .loop .out) (after-loop .loop .counts) (after-loop .loop .marks)) boxed
+      (Cells.turn-exhausted (a .sheet .now) (a .finder .now) (a .fixed) (a .hidden .now) (a .depth) (open-cell after-loop) (after-loop .loop .i) (world (after-loop .loop .next) (after-loop .loop .out) (after-loop .loop .counts) (after-loop .loop .marks)) boxed
       (sym (asked .detail-budget-exhausted .ensures (a .hidden .now)) ∙ after-if2 .if2 .taken)
       (loaded .load-cell .ensures (after-loop .loop .counts) (after-loop .loop .marks)))))
       (removed .stack-remove .ensures)

@@ -20,16 +20,16 @@ use Rattle.visits.proofs.+visit_cell+visit_reference+visit_source.Lts-v
 use Rattle.visits.proofs.+visit_cell+visit_reference+visit_source.Proof.Base.{visit-reference-at, visit-reference-claims}
 
 abbrev pub Inv-loop : lts.InvT-loop
-Inv-loop sheet fixed hidden out₀ counts₀ marks₀ number transform depth at reference source next₀ source-bbox world-bbox count draw-units label share i₀ out counts marks next i =
+Inv-loop sheet finder fixed hidden out₀ counts₀ marks₀ number transform depth at reference source next₀ source-bbox world-bbox count draw-units label share i₀ out counts marks next i =
     (i ≤ count)
     × (1 < depth)
     × (length out ≡ length out₀)
     × (length counts ≡ length counts₀)
     × (length marks ≡ length marks₀)
-    × (each (References.turn (givenBytes fixed sheet hidden) depth reference transform source-bbox world-bbox share) count 0 (world next₀ out₀ counts₀ marks₀) ≡ each (References.turn (givenBytes fixed sheet hidden) depth reference transform source-bbox world-bbox share) (count - i) i (world next out counts marks))
+    × (each (References.turn (givenBytes fixed sheet finder hidden) depth reference transform source-bbox world-bbox share) count 0 (world next₀ out₀ counts₀ marks₀) ≡ each (References.turn (givenBytes fixed sheet finder hidden) depth reference transform source-bbox world-bbox share) (count - i) i (world next out counts marks))
 
 abbrev pub μ-loop : lts.MeasureT-loop
-μ-loop sheet fixed hidden out₀ counts₀ marks₀ number transform depth at reference source next₀ source-bbox world-bbox count draw-units label share i₀ out counts marks next i = count - i
+μ-loop sheet finder fixed hidden out₀ counts₀ marks₀ number transform depth at reference source next₀ source-bbox world-bbox count draw-units label share i₀ out counts marks next i = count - i
 
 module _ (t : ℕ) where
   -- ---- the places on the way, and the ways back
@@ -60,10 +60,10 @@ module _ (t : ℕ) where
 
   -- what the plan is given
   abbrev lent-to : (s : Start) → Given (s .args .fixed)
-  lent-to s = given (s .args .fixed) (s .args .sheet) (s .args .hidden)
+  lent-to s = given (s .args .fixed) (s .args .sheet) (s .args .finder) (s .args .hidden)
 
   abbrev start : Looked → Start
-  start c = c .before .before .before .before .before .before
+  start c = c .before .before .before .before .before .before .before
 
   abbrev looked : Read → Looked
   looked c = c .before .before .before .before
@@ -92,7 +92,7 @@ module _ (t : ℕ) where
   pub missing : lts.Need-returns (visit-reference-claims t) (visit-reference-at t) visit-reference.Post Inv-loop μ-loop
   missing c =
       let a = start (c .before .before) .args in
-      References.missing (a .sheet .now) (a .fixed) (a .hidden .now) (a .depth) (a .number) (a .transform) _ (sym (c .before .before .look-up .ensures) ∙ c .enum-told .given .1)
+      References.missing (a .sheet .now) (a .finder .now) (a .fixed) (a .hidden .now) (a .depth) (a .number) (a .transform) _ (c .before .before .look-up .ensures) (c .enum-told .given .1)
 
   -- ---- after `open_reference`
 
@@ -124,7 +124,7 @@ module _ (t : ℕ) where
       let at-at = r .before .before in
       let a = entry c .args in
       c .open-reference .ensures (lent-to (entry c)) (onSourceBelow (lent-to (entry c)) (a .depth)) (a .depth) (a .counts .now) (a .marks .now)
-      ∙ References.found (a .sheet .now) (a .fixed) (a .hidden .now) (a .depth) (a .number) (a .transform) (world (a .plan) (a .out .now) (a .counts .now) (a .marks .now)) (at-at .at .given .0 .0) (sym (looked r .look-up .ensures) ∙ at-at .at .given .1) (r .reference-at .result) (r .reference-at .ensures)
+      ∙ References.found (a .sheet .now) (a .finder .now) (a .fixed) (a .hidden .now) (a .depth) (a .number) (a .transform) (world (a .plan) (a .out .now) (a .counts .now) (a .marks .now)) (looked r .look-up .ensures) (at-at .at .given .0 .0) (at-at .at .given .1) (r .reference-at .result) (r .reference-at .ensures)
 
   pub over : lts.Need-returns-2 (visit-reference-claims t) (visit-reference-at t) visit-reference.Post Inv-loop μ-loop
   over c =
@@ -153,9 +153,9 @@ module _ (t : ℕ) where
       let o = opening g in
       let a = entry o .args in
       References.collapsed (lent-to (entry o)) (a .depth) (read o .reference-at .result) (a .transform) (o .open-reference .result .«source_bbox») (o .open-reference .result .«world_bbox»)
-      (reached o) (units o) (u .reference-draw-units .result) (g .grid-count .result) (u .reference-draw-units .last .1 .1 .0) (u .reference-draw-units .last .1 .1 .1 .0)
+      (reached o) (units o) (u .reference-draw-units .result) (g .grid-count .result) (u .reference-draw-units .last .1 .1 .1 .0) (u .reference-draw-units .last .1 .1 .1 .1 .0)
       (u .reference-draw-units .ensures) (g .grid-count .ensures) (q .before .before .reference-test .result) (q .before .before .reference-test .ensures) (q .collapses .result) (q .collapses .ensures)
-      (after-if2 .if2 .taken) (reasoned .collapse-reason .result) (reasoned .collapse-reason .ensures) (q .before .label .result) (q .before .label .ensures) _ (added .add-load .ensures (u .reference-draw-units .last .1 .1 .0) (u .reference-draw-units .last .1 .1 .1 .0))
+      (after-if2 .if2 .taken) (reasoned .collapse-reason .result) (reasoned .collapse-reason .ensures) (q .before .label .result) (q .before .label .ensures) _ (added .add-load .ensures (u .reference-draw-units .last .1 .1 .1 .0) (u .reference-draw-units .last .1 .1 .1 .1 .0))
       ∙ units-left g
 
   -- ---- at the loop's head
@@ -201,7 +201,7 @@ module _ (t : ℕ) where
       let a = entry o .args in
       ap ending (sym (c .loop .inv .5))
       ∙ References.expanded (lent-to (entry o)) (a .depth) (read o .reference-at .result) (a .transform) (o .open-reference .result .«source_bbox») (o .open-reference .result .«world_bbox»)
-      (reached o) (units o) (u .reference-draw-units .result) (g .grid-count .result) (u .reference-draw-units .last .1 .1 .0) (u .reference-draw-units .last .1 .1 .1 .0)
+      (reached o) (units o) (u .reference-draw-units .result) (g .grid-count .result) (u .reference-draw-units .last .1 .1 .1 .0) (u .reference-draw-units .last .1 .1 .1 .1 .0)
       (u .reference-draw-units .ensures) (g .grid-count .ensures) (q .before .before .reference-test .result) (q .before .before .reference-test .ensures) (q .collapses .result) (q .collapses .ensures)
       (after-if2 .if2 .left) (shared .source-units .result) (shared .source-units .ensures)
       ∙ units-left g
@@ -210,10 +210,10 @@ module _ (t : ℕ) where
   out-length c = c .loop .inv .2 ∙ opened-at c .open-reference .kept .1 .0
 
   counts-length : (c : Head) → length (c .loop .counts) ≡ length (entry (opened-at c) .args .counts .now)
-  counts-length c = c .loop .inv .3 ∙ counted (asked c) .reference-draw-units .kept .1 .1 .0
+  counts-length c = c .loop .inv .3 ∙ counted (asked c) .reference-draw-units .kept .1 .1 .1 .0
 
   marks-length : (c : Head) → length (c .loop .marks) ≡ length (entry (opened-at c) .args .marks .now)
-  marks-length c = c .loop .inv .4 ∙ counted (asked c) .reference-draw-units .kept .1 .1 .1 .0
+  marks-length c = c .loop .inv .4 ∙ counted (asked c) .reference-draw-units .kept .1 .1 .1 .1 .0
 
   pub finished : lts.Need-returns-6 (visit-reference-claims t) (visit-reference-at t) visit-reference.Post Inv-loop μ-loop
   finished c =
@@ -274,25 +274,25 @@ module _ (t : ℕ) where
       let labelled = asked (head m) .before in
       halts m _
       (References.source-halted (m .try-member .result .opens) (m .try-member .result .whole) _ (m .try-member .result .bbox) (passed m) (visited m) _ (tried m)
-      (after-if3 .if3 .taken) (sourced .visit-source .result .whole) (world (sourced .visit-source .result .plan) (sourced .visit-source .last .1 .1 .1 .0) (sourced .visit-source .last .1 .1 .1 .1 .0) (sourced .visit-source .last .1 .1 .1 .1 .1 .0)) (sourced .visit-source .ensures) (not-true _ (after-if4 .if4 .taken))
-      (labelled .label .result) (labelled .label .ensures) _ (added .add-load2 .ensures (sourced .visit-source .last .1 .1 .1 .1 .0) (sourced .visit-source .last .1 .1 .1 .1 .1 .0)))
+      (after-if3 .if3 .taken) (sourced .visit-source .result .whole) (world (sourced .visit-source .result .plan) (sourced .visit-source .last .1 .1 .1 .1 .0) (sourced .visit-source .last .1 .1 .1 .1 .1 .0) (sourced .visit-source .last .1 .1 .1 .1 .1 .1 .0)) (sourced .visit-source .ensures) (not-true _ (after-if4 .if4 .taken))
+      (labelled .label .result) (labelled .label .ensures) _ (added .add-load2 .ensures (sourced .visit-source .last .1 .1 .1 .1 .1 .0) (sourced .visit-source .last .1 .1 .1 .1 .1 .1 .0)))
 
   pub source-halts-out : lts.Need-same-length-5 (visit-reference-claims t) (visit-reference-at t) visit-reference.Post Inv-loop μ-loop
   source-halts-out c =
       let added = c .before .before in
       let sourced = c .before .before .before .before .before .before .before .before .before .before .before .before .before in
       let m = sourced .before .before .before .before .before .before .before .before in
-      added .add-load2 .kept .0 ∙ sourced .visit-source .kept .1 .1 .1 .0 ∙ m .try-member .kept .1 .0 ∙ out-length (head m)
+      added .add-load2 .kept .0 ∙ sourced .visit-source .kept .1 .1 .1 .1 .0 ∙ m .try-member .kept .1 .0 ∙ out-length (head m)
 
   pub source-halts-counts : lts.Need-same-length-6 (visit-reference-claims t) (visit-reference-at t) visit-reference.Post Inv-loop μ-loop
   source-halts-counts c =
       let sourced = c .before .before .before .before .before .before .before .before .before .before .before .before .before in
-      sourced .visit-source .kept .1 .1 .1 .1 .0 ∙ counts-length (head (sourced .before .before .before .before .before .before .before .before))
+      sourced .visit-source .kept .1 .1 .1 .1 .1 .0 ∙ counts-length (head (sourced .before .before .before .before .before .before .before .before))
 
   pub source-halts-marks : lts.Need-same-length-7 (visit-reference-claims t) (visit-reference-at t) visit-reference.Post Inv-loop μ-loop
   source-halts-marks c =
       let sourced = c .before .before .before .before .before .before .before .before .before .before .before .before .before in
-      sourced .visit-source .kept .1 .1 .1 .1 .1 .0 ∙ marks-length (head (sourced .before .before .before .before .before .before .before .before))
+      sourced .visit-source .kept .1 .1 .1 .1 .1 .1 .0 ∙ marks-length (head (sourced .before .before .before .before .before .before .before .before))
 
   pub member-halts : lts.Need-returns-5 (visit-reference-claims t) (visit-reference-at t) visit-reference.Post Inv-loop μ-loop
   member-halts c =
@@ -331,13 +331,13 @@ module _ (t : ℕ) where
       (λ w. (
         omega (arith, after-loop-test .loop-test .taken),
         after-loop .loop .inv .1,
-        ap length (w .14) ∙ w .4 .kept .1 .1 .1 .0 ∙ after-try-member .try-member .kept .1 .0 ∙ after-loop .loop .inv .2,
-        ap length (w .15) ∙ w .4 .kept .1 .1 .1 .1 .0 ∙ after-loop .loop .inv .3,
-        ap length (w .16) ∙ w .4 .kept .1 .1 .1 .1 .1 .0 ∙ after-loop .loop .inv .4,
+        ap length (w .14) ∙ w .4 .kept .1 .1 .1 .1 .0 ∙ after-try-member .try-member .kept .1 .0 ∙ after-loop .loop .inv .2,
+        ap length (w .15) ∙ w .4 .kept .1 .1 .1 .1 .1 .0 ∙ after-loop .loop .inv .3,
+        ap length (w .16) ∙ w .4 .kept .1 .1 .1 .1 .1 .1 .0 ∙ after-loop .loop .inv .4,
         after-loop .loop .inv .5
             ∙ goes-on after-try-member _
             (References.source-passed (after-try-member .try-member .result .opens) (after-try-member .try-member .result .whole) _ (after-try-member .try-member .result .bbox) (passed after-try-member) (visited after-try-member) _ (tried after-try-member)
-            (w .0 .taken) (w .4 .result .whole) (world (w .4 .result .plan) (w .4 .last .1 .1 .1 .0) (w .4 .last .1 .1 .1 .1 .0) (w .4 .last .1 .1 .1 .1 .1 .0)) (w .4 .ensures) (not-false _ (w .13 .left)) _ (λ j. world (w .17 j) (w .14 j) (w .15 j) (w .16 j))),
+            (w .0 .taken) (w .4 .result .whole) (world (w .4 .result .plan) (w .4 .last .1 .1 .1 .1 .0) (w .4 .last .1 .1 .1 .1 .1 .0) (w .4 .last .1 .1 .1 .1 .1 .1 .0)) (w .4 .ensures) (not-false _ (w .13 .left)) _ (λ j. world (w .17 j) (w .14 j) (w .15 j) (w .16 j))),
       ))
       (λ w. (
         omega (arith, after-loop-test .loop-test .taken),

@@ -11,8 +11,8 @@ module _ (t : ℕ) where
   to-cell c =
       let after-visit-cell = c .before .before .before .before .before .before in
       let after-source = after-visit-cell .before .before .before .before .before in
-      let start = after-source .before .before .before .before .before .before .before in
-      Cells.source-cell (start .args .sheet .now) (start .args .fixed) (start .args .hidden .now) (start .args .depth) (start .args .source) (after-source .source .given .0 .0) (start .args .transform)
+      let start = after-source .before .before .before .before .before .before .before .before in
+      Cells.source-cell (start .args .sheet .now) (start .args .finder .now) (start .args .fixed) (start .args .hidden .now) (start .args .depth) (start .args .source) (after-source .source .given .0 .0) (start .args .transform)
       (world (start .args .plan) (start .args .out .now) (start .args .counts .now) (start .args .marks .now))
       (after-source .source .given .1) _ (after-visit-cell .visit-cell .ensures)
 
@@ -20,8 +20,8 @@ module _ (t : ℕ) where
   to-geometry c =
       let after-push-geometry = c .before .before in
       let after-source2 = after-push-geometry .before .before .before in
-      let start = after-source2 .before .before .before .before .before .before .before in
-      Cells.source-geometry (start .args .sheet .now) (start .args .fixed) (start .args .hidden .now) (start .args .depth) (start .args .source) (after-source2 .source2 .given .0 .0) (start .args .transform)
+      let start = after-source2 .before .before .before .before .before .before .before .before in
+      Cells.source-geometry (start .args .sheet .now) (start .args .finder .now) (start .args .fixed) (start .args .hidden .now) (start .args .depth) (start .args .source) (after-source2 .source2 .given .0 .0) (start .args .transform)
       (world (start .args .plan) (start .args .out .now) (start .args .counts .now) (start .args .marks .now))
       (after-source2 .source2 .given .1) _ (after-push-geometry .push-geometry .ensures (start .args .counts .now) (start .args .marks .now))
 
@@ -29,8 +29,8 @@ module _ (t : ℕ) where
   to-text c =
       let after-push-text = c .before .before in
       let after-source3 = after-push-text .before .before .before in
-      let start = after-source3 .before .before .before .before .before .before .before in
-      Cells.source-text (start .args .sheet .now) (start .args .fixed) (start .args .hidden .now) (start .args .depth) (start .args .source) (after-source3 .source3 .given .0 .0) (start .args .transform)
+      let start = after-source3 .before .before .before .before .before .before .before .before in
+      Cells.source-text (start .args .sheet .now) (start .args .finder .now) (start .args .fixed) (start .args .hidden .now) (start .args .depth) (start .args .source) (after-source3 .source3 .given .0 .0) (start .args .transform)
       (world (start .args .plan) (start .args .out .now) (start .args .counts .now) (start .args .marks .now))
       (after-source3 .source3 .given .1) _ (after-push-text .push-text .ensures (start .args .counts .now) (start .args .marks .now))
 
@@ -38,8 +38,8 @@ module _ (t : ℕ) where
   to-node c =
       let after-push-node = c .before .before in
       let after-source4 = after-push-node .before .before .before in
-      let start = after-source4 .before .before .before .before .before .before .before in
-      Cells.source-node (start .args .sheet .now) (start .args .fixed) (start .args .hidden .now) (start .args .depth) (start .args .source) (after-source4 .source4 .given .0 .0) (start .args .transform)
+      let start = after-source4 .before .before .before .before .before .before .before .before in
+      Cells.source-node (start .args .sheet .now) (start .args .finder .now) (start .args .fixed) (start .args .hidden .now) (start .args .depth) (start .args .source) (after-source4 .source4 .given .0 .0) (start .args .transform)
       (world (start .args .plan) (start .args .out .now) (start .args .counts .now) (start .args .marks .now))
       (after-source4 .source4 .given .1) _ (after-push-node .push-node .ensures (start .args .counts .now) (start .args .marks .now))
 
@@ -47,7 +47,7 @@ module _ (t : ℕ) where
   to-reference c =
       let after-visit-reference = c .before .before .before .before .before .before in
       let after-source5 = after-visit-reference .before .before .before .before .before in
-      let start = after-source5 .before .before .before .before .before .before .before in
-      Cells.source-reference (start .args .sheet .now) (start .args .fixed) (start .args .hidden .now) (start .args .depth) (start .args .source) (after-source5 .source5 .given .0 .0) (start .args .transform)
+      let start = after-source5 .before .before .before .before .before .before .before .before in
+      Cells.source-reference (start .args .sheet .now) (start .args .finder .now) (start .args .fixed) (start .args .hidden .now) (start .args .depth) (start .args .source) (after-source5 .source5 .given .0 .0) (start .args .transform)
       (world (start .args .plan) (start .args .out .now) (start .args .counts .now) (start .args .marks .now))
       (after-source5 .source5 .given .1) _ (after-visit-reference .visit-reference .ensures)

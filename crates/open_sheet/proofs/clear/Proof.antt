@@ -1,0 +1,43 @@
+-- `open_sheet::clear` meets its contract: what lies below i is zero, what lies above is as it was.
+-- Assumes nothing.
+use mathlib.Core.Path.{_≡_, refl, ap, _∙_}
+use mathlib.Core.List.{List, _++_, append-nil}
+use Prim.Native.Nat.{ℕ, _-_, _≤_}
+use native.Mathlib.Omega.{arith}
+use lib.ListN.{length, length-set, replicate, drop, set, drop-of-length-le}
+use borrow.Author.Fill.{fill-none, fill-more}
+use borrow.Author.Needs.{needs}
+use Rattle.open_sheet.proofs.clear.Statement.{statement}
+use Rattle.open_sheet.proofs.clear.Tie as tie
+
+abbrev Inv-loop : tie.InvT-loop
+Inv-loop d₀ i₀ d i = (i ≤ length d₀) × (length d ≡ length d₀) × (d ≡ replicate i 0 ++ drop i d₀)
+
+abbrev μ-loop : tie.MeasureT-loop
+μ-loop d₀ i₀ d i = length d₀ - i
+
+loop-holds : tie.Need-loop-holds Inv-loop μ-loop
+loop-holds c = (omega arith, refl, fill-none _ 0)
+
+loop-again : tie.Need-loop-again Inv-loop μ-loop
+loop-again c =
+    let here = c .before .loop in
+    (omega arith, simp length-set (here .inv .1), ap (λ (l : List ℕ). set l (here .i) 0) (here .inv .2) ∙ fill-more (here .i) 0 _ (omega arith))
+
+-- zeros up to i, and i is the length
+all-zero : (d x : List ℕ) (i : ℕ) → length d ≤ i → i ≤ length d → x ≡ replicate i 0 ++ drop i d → x ≡ replicate (length d) 0
+all-zero d x i h g e =
+    let z : i ≡ length d = omega arith in
+    e
+    ∙ ap (λ (l : List ℕ). replicate i 0 ++ l) (drop-of-length-le d h)
+    ∙ append-nil (replicate i 0)
+    ∙ ap (λ (n : ℕ). replicate n 0) z
+
+returns : tie.Need-returns Inv-loop μ-loop
+returns c = let here = c .before .loop in all-zero _ _ (here .i) (omega arith) (here .inv .0) (here .inv .2)
+
+pub clear-spec : {M : Type 1} → statement M
+clear-spec =
+    tie.close
+    (tie.spec Inv-loop μ-loop loop-holds (λ c. search needs) (λ c. search needs) (λ c. search needs) (λ c. search needs)
+    loop-again (λ c. search needs) returns)
