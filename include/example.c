@@ -22,7 +22,7 @@ static void fail(const char *what)
     exit(1);
 }
 
-/* Memory of so many bytes, and never NULL: scene_plan wants an address even for none. */
+/* Memory of so many bytes, and never NULL: the library wants an address even for none. */
 static void *take(void *old, size_t bytes)
 {
     void *memory = realloc(old, bytes > 0 ? bytes : 1);
@@ -63,7 +63,7 @@ static size_t query_length(const uint8_t *input, size_t length)
     return query;
 }
 
-/* The hidden layers of a whole query, aligned as scene_plan asks. */
+/* The hidden layers of a whole query, aligned as the library asks. */
 static uint32_t *hidden_layers(const uint8_t *query, size_t count)
 {
     uint32_t *hidden = take(NULL, count * sizeof *hidden);
@@ -74,7 +74,27 @@ static uint32_t *hidden_layers(const uint8_t *query, size_t count)
     return hidden;
 }
 
-/* ---- the plan */
+/* ---- the sheet, opened once */
+
+/* A sheet with its finder, which serves every plan of it, or the number and offset of its refusal. */
+struct opened {
+    const uint8_t *sheet;
+    size_t length, places, offset;
+    uint32_t *finder;
+    uint32_t number;
+};
+
+static struct opened open_sheet(const uint8_t *sheet, size_t length)
+{
+    struct opened opened = { sheet, length, 0, 0, NULL, 0 };
+    const size_t room = ribaltzen_places(length);
+    opened.finder = take(NULL, room * sizeof *opened.finder);
+    opened.number = scene_open(sheet, length, opened.finder, room, &opened.offset, &opened.places);
+    opened.finder = take(opened.finder, opened.places * sizeof *opened.finder); /* gives back what is not needed */
+    return opened;
+}
+
+/* ---- the plan, once for each query */
 
 /* A tape, or the number and offset of a refusal. */
 struct answer {
@@ -83,8 +103,9 @@ struct answer {
     uint8_t *tape;
 };
 
-/* Plans a sheet: with the scratch that it needs, and, where the output is too short, again with what is enough. */
-static struct answer plan(const uint8_t *query, size_t query_length, const uint8_t *sheet, size_t sheet_length)
+/* Plans an opened sheet: with the scratch that it needs, and, where the output is too short, again with what is enough.
+ * A viewer calls this for each view. It would keep the memory too, with scratch for its greatest depth. */
+static struct answer plan(const struct opened *opened, const uint8_t *query, size_t query_length)
 {
     const uint32_t root = (uint32_t)ribaltzen_field(query + 6, 4), depth = (uint32_t)ribaltzen_field(query + 10, 4);
     const size_t hidden_length = (query_length - 54) / 4;
@@ -93,19 +114,21 @@ static struct answer plan(const uint8_t *query, size_t query_length, const uint8
     size_t counts_length, marks_length, room;
     uint64_t *counts;
     uint8_t *marks;
-    /* Its number is not needed: where it refuses, scene_plan does too, and says where. */
-    ribaltzen_scratch(sheet, sheet_length, depth, &counts_length, &marks_length);
+    /* Its number is not needed: where it refuses, the plan is refused too. */
+    ribaltzen_scratch(opened->sheet, opened->length, depth, &counts_length, &marks_length);
     counts = take(NULL, counts_length * sizeof *counts);
     marks = take(NULL, marks_length);
     do {
         room = answer.length;
         answer.tape = take(answer.tape, room);
-        answer.number = scene_plan(sheet, sheet_length, root, depth,
-                                   ribaltzen_float(query + 14), ribaltzen_float(query + 22), /* view: min */
-                                   ribaltzen_float(query + 30), ribaltzen_float(query + 38), /* view: max */
-                                   ribaltzen_float(query + 46),                              /* zoom */
-                                   hidden, hidden_length, answer.tape, room, counts, counts_length, marks, marks_length,
-                                   &answer.offset, &answer.length);
+        answer.number = scene_plan_with_finder(opened->sheet, opened->length, opened->finder, opened->places,
+                                               root, depth,
+                                               ribaltzen_float(query + 14), ribaltzen_float(query + 22), /* view: min */
+                                               ribaltzen_float(query + 30), ribaltzen_float(query + 38), /* view: max */
+                                               ribaltzen_float(query + 46),                              /* zoom */
+                                               hidden, hidden_length, answer.tape, room,
+                                               counts, counts_length, marks, marks_length,
+                                               &answer.offset, &answer.length);
     } while (answer.number == RIBALTZEN_OUTPUT_TOO_SHORT && answer.length > room);
     free(hidden);
     free(counts);
@@ -175,28 +198,44 @@ static void print_tape(const uint8_t *tape, size_t length)
     while ((more = ribaltzen_next(&cursor, &record)) == 1) {
         print_record(&record);
     }
-    if (more != 0) { /* no tape of scene_plan's, but one that was stored could be damaged */
+    if (more != 0) { /* no tape of the library's, but one that was stored could be damaged */
         errno = 0;
         fail(ribaltzen_damage(cursor.damage));
     }
 }
 
+static void print_refusal(uint32_t number, size_t offset)
+{
+    printf("refused %" PRIu32 " %zu\n", number, offset);
+    fprintf(stderr, "%s No.\n", ribaltzen_refusal(number));
+}
+
+static void print_plan(const struct opened *opened, const uint8_t *query, size_t query_length)
+{
+    struct answer answer = plan(opened, query, query_length);
+    if (answer.number == RIBALTZEN_PLANNED) {
+        print_tape(answer.tape, answer.length);
+    } else {
+        print_refusal(answer.number, answer.offset);
+    }
+    free(answer.tape);
+}
+
 static void print_answer(const uint8_t *input, size_t length)
 {
     size_t query = query_length(input, length);
-    struct answer answer;
+    struct opened opened;
     if (query == 0) {
         puts("no query");
         return;
     }
-    answer = plan(input, query, input + query, length - query);
-    if (answer.number == RIBALTZEN_PLANNED) {
-        print_tape(answer.tape, answer.length);
+    opened = open_sheet(input + query, length - query);
+    if (opened.number == RIBALTZEN_OPENED) {
+        print_plan(&opened, input, query);
     } else {
-        printf("refused %" PRIu32 " %zu\n", answer.number, answer.offset);
-        fprintf(stderr, "%s No.\n", ribaltzen_refusal(answer.number));
+        print_refusal(opened.number, opened.offset);
     }
-    free(answer.tape);
+    free(opened.finder);
 }
 
 int main(int count, char **arguments)

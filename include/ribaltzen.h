@@ -1,11 +1,16 @@
 /* Ribaltzen: the scene planner for C programs.
  *
- * Link target/staticlib/libplanner_c.a, which `rt staticlib planner_c` writes (x86-64 Linux). Its one function,
- * scene_plan, is proved to end, to read and write only what is lent, and to answer as document 01 says, for any bytes,
- * any query and any lent memory. That proof is about callers that keep to this page. The inline functions here and in
+ * Link target/staticlib/libplanner_c.a, which `rt staticlib planner_c` writes (x86-64 Linux). Its three functions are
+ * proved to end, to read and write only what is lent, and to answer as documents 01 and 02 say, for any bytes, any
+ * query and any lent memory. That proof is about callers that keep to this page. The inline functions here and in
  * ribaltzen_tape.h, which reads a tape, are tested, not proved.
  *
- * docs/FORMATS.md has the formats of sheet and tape. example.c, beside this file, is a whole program.
+ *   scene_open               once for each sheet: lists where its records stand, in a finder
+ *   scene_plan_with_finder   then once for each view
+ *   scene_plan               the same plan without a finder: it walks the records for each number that it looks up, so
+ *                            plans of large sheets take long (docs/FIGURES.md)
+ *
+ * docs/FORMATS.md has the formats of sheet, finder and tape. example.c, beside this file, is a whole program.
  *
  * Licence: MIT, see LICENSE and NOTICE.
  */
@@ -20,13 +25,14 @@ extern "C" {
 #endif
 
 #define RIBALTZEN_VERSION_MAJOR 0
-#define RIBALTZEN_VERSION_MINOR 2
+#define RIBALTZEN_VERSION_MINOR 3
 #define RIBALTZEN_VERSION_PATCH 0
-#define RIBALTZEN_VERSION "0.2.0"
+#define RIBALTZEN_VERSION "0.3.0"
 
-/* What scene_plan returns: 0 for a plan, else the refusal's number. ribaltzen_refusal has the question answered "no". */
+/* What the functions return: 0, else the refusal's number. ribaltzen_refusal has the question answered "no". */
 enum {
     RIBALTZEN_PLANNED = 0,
+    RIBALTZEN_OPENED = 0, /* of scene_open */
     RIBALTZEN_SHEET_TOO_LONG = 1,
     RIBALTZEN_BROKEN_RECORD = 2,
     RIBALTZEN_WRONG_LENGTH = 3,
@@ -38,8 +44,30 @@ enum {
     RIBALTZEN_BAD_ZOOM = 9,
     RIBALTZEN_TOO_DEEP = 10,
     RIBALTZEN_SCRATCH_TOO_SHORT = 11,
-    RIBALTZEN_OUTPUT_TOO_SHORT = 12
+    RIBALTZEN_OUTPUT_TOO_SHORT = 12,
+    RIBALTZEN_WRONG_FINDER = 13 /* asked after number 6 and before 8, where a finder is lent */
 };
+
+/* What the caller of each function owes, for nothing tests it:
+ *
+ *   - Each pointer with a length points to that many elements, and is not NULL even where the length is 0: any address
+ *     of the right alignment will do there. offset, length and places point to one size_t each.
+ *   - finder and hidden are aligned as uint32_t, counts as uint64_t, offset, length and places as size_t; sheet, out
+ *     and marks as bytes.
+ *   - What a call writes overlaps nothing else that it is lent.
+ *   - No other thread writes any of these during the call, or reads what the call writes. Calls at the same time may
+ *     share what they only read: the library keeps no state.
+ *   - The float environment is as the system sets it: round to nearest, no flushing, no traps. That is MXCSR, a
+ *     register of each thread, with rounding control 0, flush-to-zero and denormals-are-zero clear, and all exceptions
+ *     masked. Under another rounding or with flushing a call can give another plan, and nothing says so: test_floats.c
+ *     shows each. A program that was linked with -ffast-math, or loads a library that was, may start with flushing set.
+ *   - No length is above PTRDIFF_MAX bytes, which no real object is.
+ *   - The thread has 128 KiB of stack left: no proof covers the stack. docs/FORMATS.md has what was measured.
+ *
+ * How long a plan takes is not bounded by anything useful, with a finder or without: every call ends, but a small sheet
+ * can name a very large number of members to visit. A host that opens strangers' sheets plans on a thread or process
+ * that it can end.
+ */
 
 /* Plans one sheet.
  *
@@ -61,24 +89,6 @@ enum {
  *
  * "Enough" is exact: the same call with an output of that many bytes is planned, and its tape fills it. A call with no
  * output so asks for the length, at the cost of a whole plan.
- *
- * What the caller owes, for nothing tests it:
- *
- *   - Each pointer with a length points to that many elements, and is not NULL even where the length is 0: any address
- *     of the right alignment will do there. offset and length point to one size_t each.
- *   - hidden is aligned as uint32_t, counts as uint64_t, offset and length as size_t; sheet, out and marks as bytes.
- *   - out, counts, marks, *offset and *length do not overlap each other, nor sheet or hidden.
- *   - No other thread writes any of these during the call, or reads what the call writes. Calls on separate memory may
- *     run at the same time: the library keeps no state.
- *   - The float environment is as the system sets it: round to nearest, no flushing, no traps. That is MXCSR, a
- *     register of each thread, with rounding control 0, flush-to-zero and denormals-are-zero clear, and all exceptions
- *     masked. Under another rounding or with flushing a call can give another plan, and nothing says so: test_floats.c
- *     shows each. A program that was linked with -ffast-math, or loads a library that was, may start with flushing set.
- *   - No length is above PTRDIFF_MAX bytes, which no real object is.
- *   - The thread has 128 KiB of stack left: no proof covers the stack. docs/FORMATS.md has what was measured.
- *
- * How long a call takes is not bounded by anything useful: every call ends, but a small sheet can name a very large
- * number of members to visit. A host that opens strangers' sheets plans on a thread or process that it can end.
  */
 uint32_t scene_plan(const uint8_t *sheet, size_t sheet_length,
                     uint32_t root, uint32_t depth,
@@ -89,20 +99,67 @@ uint32_t scene_plan(const uint8_t *sheet, size_t sheet_length,
                     uint8_t *marks, size_t marks_length,
                     size_t *offset, size_t *length);
 
-/* Limits of a sheet and a query, and sizes that are always enough: no plan has a longer tape, and no accepted sheet and
- * depth name more scratch. */
+/* Opens a sheet: fills its finder, for scene_plan_with_finder.
+ *
+ *   sheet                 read only
+ *   finder                takes the records' offsets: all batches in order of number, then texts, nodes, references and
+ *                         cells; ribaltzen_places says how many places are enough
+ *   *offset               written by every call, as by scene_plan
+ *   *places               written by every call: see below
+ *
+ * Returns 0 and the sheet's own finder in finder[0 .. *places), or one of the numbers 1 to 7 and 13. After the call:
+ *
+ *   number    *places                          finder
+ *   1 to 7    0                                as lent
+ *   13        the sheet's number of records    all zero, to its end
+ *   0         the sheet's number of records    the offsets, then as lent
+ *
+ * Number 13 is given just where the finder has fewer places than the sheet has records. A call with no places so asks
+ * for their number. An empty sheet has an empty finder.
+ */
+uint32_t scene_open(const uint8_t *sheet, size_t sheet_length,
+                    uint32_t *finder, size_t finder_length,
+                    size_t *offset, size_t *places);
+
+/* Plans one sheet with a finder: no look-up by number walks the records.
+ *
+ * finder is read only; what else is lent is as for scene_plan. If the finder begins with the sheet's own, as scene_open
+ * fills it, the call answers and leaves all memory as scene_plan does; what stands behind does not matter. With any
+ * other, too short or different in one place, it is refused, which is asked after number 6 and before 8:
+ *
+ *   number    *length                  out                       counts and marks
+ *   13        0                        all zero, to its end      all zero, to their ends
+ *
+ * So a finder need not be trusted, be it stored, of another sheet or of what the sheet was before a change: the answer
+ * is the plan of the lent bytes, or 13. For that each call asks the whole sheet and compares the finder with it, in a
+ * time that grows with the bytes alone.
+ */
+uint32_t scene_plan_with_finder(const uint8_t *sheet, size_t sheet_length,
+                                const uint32_t *finder, size_t finder_length,
+                                uint32_t root, uint32_t depth,
+                                double min_x, double min_y, double max_x, double max_y, double zoom,
+                                const uint32_t *hidden, size_t hidden_length,
+                                uint8_t *out, size_t out_length,
+                                uint64_t *counts, size_t counts_length,
+                                uint8_t *marks, size_t marks_length,
+                                size_t *offset, size_t *length);
+
+/* Limits of a sheet and a query, and sizes that are always enough: no accepted sheet has more records, no plan has a
+ * longer tape, and no accepted sheet and depth name more scratch. */
 #define RIBALTZEN_MOST_SHEET ((size_t)16777216) /* bytes */
+#define RIBALTZEN_LEAST_RECORD ((size_t)26)     /* bytes: a text without a value, a node of one point */
+#define RIBALTZEN_MOST_PLACES (RIBALTZEN_MOST_SHEET / RIBALTZEN_LEAST_RECORD) /* of a finder: 645,277 */
 #define RIBALTZEN_MOST_CELLS ((size_t)4096)
 #define RIBALTZEN_MOST_DEPTH ((uint32_t)32)
 #define RIBALTZEN_MOST_TAPE ((size_t)5360054) /* bytes: 100,000 proxies, 20,000 batches and the totals */
 #define RIBALTZEN_MOST_COUNTS (RIBALTZEN_MOST_CELLS * RIBALTZEN_MOST_DEPTH)      /* places of 64 bits */
 #define RIBALTZEN_MOST_MARKS (RIBALTZEN_MOST_CELLS * (RIBALTZEN_MOST_DEPTH + 2)) /* bytes */
 
-/* The question that a number of scene_plan answers "no" to, in the words of docs/FORMATS.md. */
+/* The question that a number answers "no" to, in the words of docs/FORMATS.md. */
 static inline const char *ribaltzen_refusal(uint32_t number)
 {
     switch (number) {
-    case RIBALTZEN_PLANNED: return "planned";
+    case RIBALTZEN_PLANNED: return "not refused";
     case RIBALTZEN_SHEET_TOO_LONG: return "Is the sheet at most 16,777,216 bytes?";
     case RIBALTZEN_BROKEN_RECORD: return "Are 6 bytes left, and is the length at least 6 and within the sheet?";
     case RIBALTZEN_WRONG_LENGTH: return "Is the kind 1 to 5, and the length right for it, a cell's counts included?";
@@ -118,6 +175,7 @@ static inline const char *ribaltzen_refusal(uint32_t number)
     case RIBALTZEN_TOO_DEEP: return "Is depth at most 32?";
     case RIBALTZEN_SCRATCH_TOO_SHORT: return "Are both scratch areas large enough?";
     case RIBALTZEN_OUTPUT_TOO_SHORT: return "Does the whole tape fit the lent output?";
+    case RIBALTZEN_WRONG_FINDER: return "Is the finder long enough and, when planning, the sheet's own?";
     default: return "a number that this version does not know";
     }
 }
@@ -133,12 +191,18 @@ static inline uint64_t ribaltzen_field(const uint8_t *at, size_t bytes)
     return value;
 }
 
+/* Places of a finder that are enough for a sheet of so many bytes. A sheet that is too long is refused with any. */
+static inline size_t ribaltzen_places(size_t sheet_length)
+{
+    return sheet_length < RIBALTZEN_MOST_SHEET ? sheet_length / RIBALTZEN_LEAST_RECORD : RIBALTZEN_MOST_PLACES;
+}
+
 /* The scratch that a sheet and a depth need: *counts places of 64 bits and *marks bytes, by one pass over the records.
  *
- * Returns 0 and the sizes, or one of the numbers 1, 2, 7 and 10 and sizes 0: scene_plan then refuses too, whatever
- * scratch it is lent, with that number or that of a question asked before it. Only the records' heads are looked at, so
- * after 0 a call may still be refused, but with scratch of these sizes never with 11. A size may be 0: malloc(0) may be
- * NULL, which scene_plan does not take. */
+ * Returns 0 and the sizes, or one of the numbers 1, 2, 7 and 10 and sizes 0: a plan is then refused too, whatever
+ * scratch is lent, with that number or that of a question asked before it. Only the records' heads are looked at, so
+ * after 0 a call may still be refused, but with scratch of these sizes never with 11. More is named at a greater depth:
+ * who plans many views asks once, for the greatest. A size may be 0: malloc(0) may be NULL, which no function takes. */
 static inline uint32_t ribaltzen_scratch(const uint8_t *sheet, size_t sheet_length, uint32_t depth,
                                          size_t *counts, size_t *marks)
 {

@@ -1,4 +1,4 @@
-/* The records of a tape, for C programs: a cursor over the bytes that scene_plan wrote, or that were stored.
+/* The records of a tape, for C programs: a cursor over the bytes that the library wrote, or that were stored.
  *
  *     struct ribaltzen_cursor cursor = ribaltzen_records(out, length);
  *     struct ribaltzen_record record;
@@ -8,7 +8,7 @@
  *     }
  *     if (more != 0) { the tape is damaged at cursor.offset, and cursor.damage says how }
  *
- * Any bytes may be given, at any alignment: nothing is read past their length. A tape that scene_plan wrote is never
+ * Any bytes may be given, at any alignment: nothing is read past their length. A tape that the library wrote is never
  * damaged. One that was cut is, wherever it was cut: only totals, as the last record, end a tape well. Changed bytes in
  * the body of a record cannot be told from others.
  *

@@ -81,11 +81,18 @@ uint32_t ask(const struct asked *asked, size_t out, size_t counts, size_t marks,
 /* Holds the sizes that ribaltzen_scratch gives to scene_plan. Returns whether the call is accepted. */
 int expect_scratch(const struct asked *asked);
 
+/* ---- test_finder.c */
+
+/* Holds scene_open and scene_plan_with_finder to scene_plan and to ribaltzen.h on what is asked, with the sheet's own
+ * finder and with others, every lent byte compared. Returns whether the sheet has a finder. */
+int expect_finder(const struct asked *asked);
+
 /* ---- the tests, one for each file */
 
 void test_plan(void);
 void test_words(const char *cargo, const char *formats);
 void test_scratch(void);
+void test_finder(void);
 void test_stored(const char *cases);
 void test_tape(void);
 void test_damage(void);

@@ -1,6 +1,6 @@
-/* The stored cases: for each, the scratch and the length after 12 are exact. Each case is the length of an input and of
- * its answer, 4 bytes each, and then both; an input is a query as a record of kind 20 and then the sheet. What the
- * answers are is held to the stored ones by oracle/compare with example.c. */
+/* The stored cases: for each, the scratch and the length after 12 are exact, and plans with finders are those without.
+ * Each case is the length of an input and of its answer, 4 bytes each, and then both; an input is a query as a record
+ * of kind 20 and then the sheet. What the answers are is held to the stored ones by oracle/compare with example.c. */
 #include "ribaltzen_tape.h"
 #include "test.h"
 
@@ -67,7 +67,7 @@ static uint8_t *read_file(const char *name, size_t *length)
 
 void test_stored(const char *cases)
 {
-    size_t length, at = 0, planned = 0;
+    size_t length, at = 0, opened = 0, planned = 0;
     uint8_t *bytes = read_file(cases, &length);
     while (length - at >= 8) {
         size_t input = (size_t)ribaltzen_field(bytes + at, 4), answer = (size_t)ribaltzen_field(bytes + at + 4, 4);
@@ -76,12 +76,16 @@ void test_stored(const char *cases)
         if (input > length - at || answer > length - at - input) {
             break;
         }
-        if (split(bytes + at, input, &asked) && expect_scratch(&asked)) {
-            expect_length_after_12(&asked);
-            planned++;
+        if (split(bytes + at, input, &asked)) {
+            opened += (size_t)expect_finder(&asked);
+            if (expect_scratch(&asked)) {
+                expect_length_after_12(&asked);
+                planned++;
+            }
         }
         at += input + answer;
     }
     expect(at == length && planned > 500, "the stored cases are read to their end, and most are planned");
+    expect(opened > planned, "sheets are opened, also those of refused queries");
     free(bytes);
 }

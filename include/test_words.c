@@ -33,7 +33,7 @@ static void test_questions(const char *formats)
 {
     char row[8], words[256];
     uint32_t number;
-    for (number = 1; number <= 12; number++) {
+    for (number = 1; number <= 13; number++) {
         snprintf(row, sizeof row, "| %u |", (unsigned)number);
         snprintf(words, sizeof words, "%s |", ribaltzen_refusal(number));
         expect(strstr(words, "? |") != NULL, "a refusal's words are a question");
@@ -46,7 +46,7 @@ void test_words(const char *cargo, const char *formats)
     const char *unknown = "a number that this version does not know";
     test_version(cargo);
     test_questions(formats);
-    expect(strcmp(ribaltzen_refusal(0), "planned") == 0, "0 is a plan");
-    expect(strcmp(ribaltzen_refusal(13), unknown) == 0 && strcmp(ribaltzen_refusal(UINT32_MAX), unknown) == 0,
+    expect(strcmp(ribaltzen_refusal(0), "not refused") == 0, "0 is no refusal");
+    expect(strcmp(ribaltzen_refusal(14), unknown) == 0 && strcmp(ribaltzen_refusal(UINT32_MAX), unknown) == 0,
            "other numbers have one text");
 }
