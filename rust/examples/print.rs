@@ -10,7 +10,7 @@ use std::io::{self, BufWriter, Read, Write};
 use std::os::fd::AsFd;
 use std::process::ExitCode;
 
-use ribaltzen::{Buffers, Query, WorldBBox, plan};
+use ribaltzen::{Buffers, Finder, Query, WorldBBox};
 
 /// The query, its hidden layers and the sheet, if the first record is a whole query.
 fn split(input: &[u8]) -> Option<(Query<'static>, Vec<u32>, &[u8])> {
@@ -37,7 +37,11 @@ fn answer(input: &[u8], mut to: impl Write) -> io::Result<()> {
         hidden: &hidden,
         ..query
     };
-    match plan(sheet, &query, Buffers::new().lend()) {
+    // A viewer keeps finder and buffers, and plans each view with them.
+    let mut buffers = Buffers::new();
+    let planned =
+        Finder::open(sheet).and_then(|finder| buffers.plan_with_finder(sheet, &finder, &query));
+    match planned {
         Ok(plan) => plan
             .records()
             .try_for_each(|record| writeln!(to, "{record}")),

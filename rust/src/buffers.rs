@@ -4,11 +4,11 @@ use std::fmt;
 
 use crate::call::call;
 use crate::record::length;
-use crate::{MOST_CELLS, MOST_DEPTH, MOST_TAPE, Plan, Query, Refusal, Sheet};
+use crate::{Finder, MOST_CELLS, MOST_DEPTH, MOST_TAPE, Plan, Query, Refusal, Sheet};
 
 /// Memory lent for one call. What it holds before does not matter. After a plan `out` holds the tape and is otherwise as
 /// lent, and the named scratch, the first cells × depth `counts` and cells × (depth + 2) `marks`, is zero.
-/// Refusals 1 to 11 leave all as lent; 12 zeroes `out` and the named scratch.
+/// Refusals 1 to 11 leave all as lent; 12 zeroes `out` and the named scratch, 13 all of it.
 pub struct Lent<'a> {
     /// Takes the tape; [`MOST_TAPE`] bytes are always enough.
     pub out: &'a mut [u8],
@@ -48,7 +48,7 @@ impl Buffers {
     }
 
     /// The scratch that a sheet needs at a depth (a deeper query is refused with 11), and an output for one record of each
-    /// of its items: [`Buffers::plan`] makes it longer where grids list more.
+    /// of its items: planning makes it longer where grids list more.
     pub fn for_sheet(sheet: &Sheet, depth: u32) -> Self {
         // No sum can overflow: no item has a record of twice its bytes in the sheet.
         let points: usize = sheet.nodes().iter().map(|node| node.points().len()).sum();
@@ -60,26 +60,51 @@ impl Buffers {
         Self::with_sizes(tape.min(MOST_TAPE), sheet.cells().len(), depth)
     }
 
-    /// Plans a sheet in this memory. Where the output is too short it is replaced by one that is enough and the sheet
-    /// planned once more, so number 12 is not met.
+    /// Plans a sheet in this memory with the finder that was opened for it, the way for sheets of any size. Where the
+    /// output is too short it is replaced by one that is enough and the sheet planned once more, so number 12 is not met.
+    /// With the finder of another sheet, or of what the sheet was before a change, the call is refused with number 13,
+    /// unless all records stand at the same places: then it is as good as the sheet's own.
+    ///
+    /// # Panics
+    ///
+    /// As [`crate::plan`] does.
+    pub fn plan_with_finder(
+        &mut self,
+        sheet: &[u8],
+        finder: &Finder,
+        query: &Query,
+    ) -> Result<Plan<'_>, Refusal> {
+        self.plan_and_grow(sheet, Some(finder.places()), query)
+    }
+
+    /// The same plan without a finder. It walks the records for each number that it looks up, which is slow on large sheets.
     ///
     /// # Panics
     ///
     /// As [`crate::plan`] does.
     pub fn plan(&mut self, sheet: &[u8], query: &Query) -> Result<Plan<'_>, Refusal> {
-        let mut answer = call(sheet, query, &mut self.lend());
+        self.plan_and_grow(sheet, None, query)
+    }
+
+    fn plan_and_grow(
+        &mut self,
+        sheet: &[u8],
+        finder: Option<&[u32]>,
+        query: &Query,
+    ) -> Result<Plan<'_>, Refusal> {
+        let mut answer = call(sheet, finder, query, &mut self.lend());
         if let Err(Refusal {
             needed: Some(needed),
             ..
         }) = answer
         {
             self.out = vec![0; needed];
-            answer = call(sheet, query, &mut self.lend());
+            answer = call(sheet, finder, query, &mut self.lend());
         }
         Ok(Plan::new(&self.out[..answer?]))
     }
 
-    /// The memory for one call of [`crate::plan`].
+    /// The memory for one call of [`crate::plan`] or [`crate::plan_with_finder`].
     pub fn lend(&mut self) -> Lent<'_> {
         Lent {
             out: &mut self.out,

@@ -6,6 +6,7 @@ mod buffers;
 mod call;
 mod damaged;
 mod fields;
+mod finder;
 mod float_environment;
 mod geometry;
 mod plan;
@@ -16,8 +17,9 @@ mod refusal;
 pub mod sheet;
 
 pub use buffers::{Buffers, Lent};
-pub use call::plan;
+pub use call::{plan, plan_with_finder};
 pub use damaged::{Damage, Damaged};
+pub use finder::{Finder, open};
 pub use float_environment::float_environment_is_default;
 pub use geometry::{Placement, WorldBBox};
 pub use plan::{Plan, PlanRecords};
@@ -36,3 +38,5 @@ pub const MOST_CELLS: usize = 4_096;
 pub const MOST_DEPTH: u32 = 32;
 /// The most bytes that a sheet may have.
 pub const MOST_SHEET: usize = 16_777_216;
+/// The most records that a sheet may have, and so the places of a finder that are always enough.
+pub const MOST_PLACES: usize = MOST_SHEET / finder::LEAST_RECORD;

@@ -3,14 +3,15 @@
 use std::error::Error;
 use std::fmt;
 
-/// Why there is no plan. It is displayed as the number, the record, and the question that was answered "no".
+/// Why there is no plan, or no finder. It is displayed as the number, the record, and the question that was answered "no".
 #[derive(Clone, Copy, Debug, PartialEq, Eq)]
 pub struct Refusal {
-    /// Document 01's number, 1 to 12.
+    /// The number of documents 01 and 02: 1 to 12, and 13 where a finder is lent.
     pub number: u32,
     /// For numbers 2 to 6 where the record at fault starts in the sheet, for the others 0.
     pub offset: usize,
-    /// After number 12 the bytes of output that would have been enough, else `None`.
+    /// What would have been enough: after number 12 the bytes of output, after number 13 of [`crate::open`] the places
+    /// of the finder. Else `None`.
     pub needed: Option<usize>,
 }
 
@@ -35,6 +36,7 @@ impl Refusal {
             10 => "Is depth at most 32?",
             11 => "Are both scratch areas large enough?",
             12 => "Does the whole tape fit the lent output?",
+            13 => "Is the finder long enough and, when planning, the sheet's own?",
             _ => "A question that this version does not know.",
         }
     }
@@ -52,8 +54,10 @@ impl fmt::Display for Refusal {
             write!(f, " at the record at byte {}", self.offset)?;
         }
         write!(f, ": {} No", self.question())?;
-        if let Some(needed) = self.needed {
-            write!(f, ", the tape has {needed} bytes")?;
+        match (self.number, self.needed) {
+            (13, Some(needed)) => write!(f, ", the sheet has {needed} records")?,
+            (_, Some(needed)) => write!(f, ", the tape has {needed} bytes")?,
+            (_, None) => {}
         }
         f.write_str(".")
     }

@@ -6,7 +6,9 @@ use std::arch::asm;
 use std::panic::{AssertUnwindSafe, catch_unwind};
 use std::thread;
 
-use ribaltzen::{Buffers, Query, Record, Records, WorldBBox, float_environment_is_default, plan};
+use ribaltzen::{
+    Buffers, Finder, Query, Record, Records, WorldBBox, float_environment_is_default, plan,
+};
 use sheets::{cell, reference, text, worked};
 
 const QUERY: Query = Query::new(0, 3, WorldBBox::new(0.0, 0.0, 10.0, 10.0), 100.0);
@@ -95,15 +97,23 @@ fn it_belongs_to_the_thread_and_is_inherited() {
 
 #[test]
 #[cfg_attr(not(debug_assertions), ignore = "release builds do not ask")]
-fn plan_asks_in_debug_builds() {
+fn debug_builds_ask() {
     let sheet = worked();
-    let planned = || plan(&sheet, &QUERY, Buffers::with_sizes(80, 1, 3).lend()).is_ok();
-    assert!(under(DEFAULT, planned).unwrap());
+    let finder = Finder::open(&sheet).unwrap();
+    let memory = || Buffers::with_sizes(80, 1, 3);
+    asks(|| Finder::open(&sheet).is_ok());
+    asks(|| plan(&sheet, &QUERY, memory().lend()).is_ok());
+    asks(|| memory().plan_with_finder(&sheet, &finder, &QUERY).is_ok());
+}
+
+/// The call is done in the default environment only.
+fn asks(call: impl Fn() -> bool + Sync) {
+    assert!(under(DEFAULT, &call).unwrap());
     for word in CHANGED {
-        let panic = under(word, planned).unwrap_err();
+        let panic = under(word, &call).unwrap_err();
         let message = panic.downcast_ref::<&str>().expect("a message");
         assert!(
-            message.starts_with("plan needs a thread that rounds to nearest"),
+            message.starts_with("the planner needs a thread that rounds to nearest"),
             "{message}"
         );
     }

@@ -141,7 +141,15 @@ fn a_refusal_says_what_was_asked() {
         refusal(12, 0, Some(80)).to_string(),
         "refused with number 12: Does the whole tape fit the lent output? No, the tape has 80 bytes."
     );
-    for number in 1..=12 {
+    assert_eq!(
+        refusal(13, 0, None).to_string(),
+        "refused with number 13: Is the finder long enough and, when planning, the sheet's own? No."
+    );
+    assert_eq!(
+        refusal(13, 0, Some(8)).to_string(),
+        "refused with number 13: Is the finder long enough and, when planning, the sheet's own? No, the sheet has 8 records."
+    );
+    for number in 1..=13 {
         let question = refusal(number, 0, None).question();
         let row = format!("| {number} | ");
         assert!(

@@ -1,24 +1,10 @@
 //! The reader of sheets on the judge's stored cases: each sheet that was planned is read, and each number that was listed
 //! is found; each that was refused with numbers 2 to 4 is damaged at the same record.
 
-use std::fs;
+mod sheets;
 
 use ribaltzen::{Damage, Sheet};
-
-/// Each case: the input (a query, then the sheet) and the text that is printed for it.
-fn cases(stored: &[u8]) -> Vec<(&[u8], &str)> {
-    let mut cases = Vec::new();
-    let mut rest = stored;
-    while let Some((&[a, b, c, d, e, f, g, h], after)) = rest.split_first_chunk() {
-        let length = |bytes| u32::from_le_bytes(bytes) as usize;
-        let (input, after) = after.split_at(length([a, b, c, d]));
-        let (text, after) = after.split_at(length([e, f, g, h]));
-        cases.push((input, std::str::from_utf8(text).expect("text")));
-        rest = after;
-    }
-    assert_eq!(rest, b"");
-    cases
-}
+use sheets::stored::Stored;
 
 fn decimal(word: Option<&str>) -> usize {
     word.expect("a field").parse().expect("a number")
@@ -70,10 +56,9 @@ fn hold(sheet: &[u8], text: &str) -> bool {
 
 #[test]
 fn stored_cases() {
-    let store = concat!(env!("CARGO_MANIFEST_DIR"), "/../crates/plan_vectors/stdin");
-    let stored = fs::read(store).expect("the stored cases");
+    let stored = Stored::read();
     let (mut planned, mut refused) = (0, 0);
-    for (input, text) in cases(&stored) {
+    for (input, text) in stored.cases() {
         if text == "no query\n" {
             continue;
         }

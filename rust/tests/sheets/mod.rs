@@ -2,6 +2,7 @@
 #![allow(dead_code)]
 
 pub mod random;
+pub mod stored;
 
 pub fn record(kind: u16, body: &[u8]) -> Vec<u8> {
     let mut bytes = (body.len() as u32 + 6).to_le_bytes().to_vec();
