@@ -1,4 +1,4 @@
-/* The stack that a call of `scene_plan` takes: bench/stack/run. A thread's stack is filled with one byte beforehand, and the bytes
+/* The stack that a call of each function takes: bench/stack/run. A thread's stack is filled with one byte beforehand, and the bytes
  * that the call changed are counted from the deepest on, less those of a thread that does nothing. Each sheet is a descent: every
  * cell but the last refers to the next, directly or through a chain of inner references, and the last lists an item. */
 #include <pthread.h>
@@ -53,22 +53,33 @@ static void make(unsigned cells, unsigned inner, int kind) {
     }
 }
 
-struct call { uint32_t depth, number; size_t length; };
+enum { DEPTH = 32, PLACES = 1 << 10 };
 static uint8_t out[1 << 12], marks[64 * 64];
 static uint64_t counts[64 * 64];
+static uint32_t finder[PLACES];
 static const uint32_t hidden[1];
 
+/* what the last call answered: the length of the tape, or the places that were filled in */
+static uint32_t number;
+static size_t offset, length, places;
+
 static void *idle(void *a) { return a; }
+static void *open_it(void *a) { number = scene_open(sheet, end, finder, PLACES, &offset, &places); return a; }
 static void *plan(void *a) {
-    struct call *c = a; size_t offset;
-    c->number = scene_plan(sheet, end, 0, c->depth, 0, 0, 1000, 1000, 1, hidden, 0, out, sizeof out, counts, 64 * 64, marks, sizeof marks, &offset, &c->length);
+    number = scene_plan(sheet, end, 0, DEPTH, 0, 0, 1000, 1000, 1, hidden, 0, out, sizeof out, counts, 64 * 64, marks, sizeof marks, &offset, &length);
+    return a;
+}
+static void *plan_with_finder(void *a) {
+    number = scene_plan_with_finder(sheet, end, finder, places, 0, DEPTH, 0, 0, 1000, 1000, 1, hidden, 0, out, sizeof out, counts, 64 * 64, marks, sizeof marks, &offset, &length);
     return a;
 }
 
-static size_t taken(void *(*body)(void *), struct call *c) {
+/* how many bytes of a thread's stack a body changes; it must be accepted */
+static size_t taken(void *(*body)(void *)) {
     pthread_attr_t attributes; pthread_t thread;
     memset(stack, FILL, STACK);
-    if (pthread_attr_init(&attributes) || pthread_attr_setstack(&attributes, stack, STACK) || pthread_create(&thread, &attributes, body, c) || pthread_join(thread, NULL)) exit(2);
+    if (pthread_attr_init(&attributes) || pthread_attr_setstack(&attributes, stack, STACK) || pthread_create(&thread, &attributes, body, NULL) || pthread_join(thread, NULL)) exit(2);
+    if (number) { fprintf(stderr, "refused with %u\n", number); exit(1); }
     size_t at = 0;
     while (at < STACK && stack[at] == FILL) at++;
     return STACK - at;
@@ -76,17 +87,19 @@ static size_t taken(void *(*body)(void *), struct call *c) {
 
 int main(void) {
     static const char *const kinds[] = {"batch", "text", "node"};
-    struct call c = {0, 0, 0};
-    size_t none = taken(idle, &c), most = 0;
-    printf("| cells | inner references a cell | item | depth | number | tape | stack, bytes |\n|---|---|---|---|---|---|---|\n");
+    void *(*const bodies[])(void *) = {open_it, plan, plan_with_finder};
+    size_t none = taken(idle), most = 0;
+    printf("| cells | inner references a cell | item | tape | stack in bytes: scene_open | scene_plan | scene_plan_with_finder |\n|---|---|---|---|---|---|---|\n");
     for (unsigned inner = 0; inner < 4; inner++)
         for (int kind = 1; kind <= 3; kind++) {
-            unsigned cells = 32 / (inner + 1);
+            unsigned cells = DEPTH / (inner + 1);
+            size_t bytes[3];
             make(cells, inner, kind);
-            c.depth = 32;
-            size_t bytes = taken(plan, &c) - none;
-            if (bytes > most) most = bytes;
-            printf("| %u | %u | %s | %u | %u | %zu | %zu |\n", cells, inner, kinds[kind - 1], c.depth, c.number, c.length, bytes);
+            for (int i = 0; i < 3; i++) {
+                bytes[i] = taken(bodies[i]) - none;
+                if (bytes[i] > most) most = bytes[i];
+            }
+            printf("| %u | %u | %s | %zu | %zu | %zu | %zu |\n", cells, inner, kinds[kind - 1], length, bytes[0], bytes[1], bytes[2]);
         }
     printf("most: %zu bytes\n", most);
     return 0;
