@@ -18,8 +18,9 @@ use std::{env, fs};
 use edits::planted::{self, Place};
 use edits::{ALTERATIONS, PIECES, Piece, SUBSTITUTIONS, apply, bodies, instrument::INSTRUMENT};
 
-const JUDGE: [(&str, Place); 4] = [
+const JUDGE: [(&str, Place); 5] = [
     ("reader", Place::Reader),
+    ("finder", Place::Finder),
     ("call", Place::Call),
     ("tape", Place::Tape),
     ("program", Place::Program),
@@ -104,7 +105,11 @@ pub static COPIES: Option<Copies> = Some(Copies {
     draw_units: unmodified::draw_units,
     instrumented: instrumented::plan_run,
     planted: planted::plan_run,
-    planted_judge: Judge { program: planted_judge::program::program, call: planted_judge::call::call },
+    planted_judge: Judge {
+        program: planted_judge::program::program,
+        call: planted_judge::call::call,
+        open: planted_judge::finder::open,
+    },
 });
 ";
 

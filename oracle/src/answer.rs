@@ -12,8 +12,9 @@ pub struct Refusal {
     pub offset: u32,
 }
 
-/// What a call of the library answers: number 0 for a plan. The length is the tape's, with number 12 that of the tape
-/// that did not fit, and 0 with every other number.
+/// What a call of the library answers: number 0 for a plan or an opened sheet. The length of a plan is the tape's, with
+/// number 12 that of the tape that did not fit, and 0 with every other number. The length of an opening is the number of
+/// the sheet's places, with number 13 too, and 0 with numbers 1 to 7.
 #[derive(Clone, Copy, Debug, Default, PartialEq, Eq)]
 pub struct Answer {
     pub number: u32,
@@ -21,9 +22,11 @@ pub struct Answer {
     pub length: u64,
 }
 
-/// What is lent to one call, and its state after it.
+/// What is lent to one call that plans, and its state after it.
 #[derive(Clone, Debug, Default, PartialEq, Eq)]
 pub struct Lent {
+    /// None where the call plans without a finder. It is only read, which is compared as all else is.
+    pub finder: Option<Vec<u32>>,
     pub output: Vec<u8>,
     pub counts: Vec<u64>,
     pub marks: Vec<u8>,
@@ -56,13 +59,16 @@ pub type TimedFn = fn(&Sheet, &Query) -> [Duration; 2];
 pub type UnitsFn = fn(&Sheet, &[(u32, u32)]) -> Vec<u64>;
 /// What `plan` prints for an input, with the size of the program's input buffer.
 pub type ProgramFn = fn(PlanFn, &[u8], usize) -> Outcome;
-/// One call of the library: the answer, and what was lent after it.
+/// One call of the library that plans: the answer, and what was lent after it.
 pub type CallFn = fn(PlanFn, &[u8], &Query, &mut Lent) -> Answer;
+/// One call of the library that opens a sheet into a lent list.
+pub type OpenFn = fn(&[u8], &mut [u32]) -> Answer;
 
 #[derive(Clone, Copy)]
 pub struct Judge {
     pub program: ProgramFn,
     pub call: CallFn,
+    pub open: OpenFn,
 }
 
 /// The copies that build.rs makes. A planted copy has the mistake that is switched on.

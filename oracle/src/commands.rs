@@ -10,10 +10,17 @@ use crate::coverage::{Coverage, tags};
 use crate::edits::{ALTERATIONS, Edit, PIECES, SUBSTITUTIONS, instrument::INSTRUMENT, planted};
 use crate::events::{OutOfFuel, fuel_left, set_fuel};
 use crate::generator::{FAMILIES, Family, edges, family, faults, large::LARGE, make, make_edge, make_large};
-use crate::harness::{Oracle, Tally};
+use crate::harness::{Entry, Oracle, Tally};
 use crate::stored::{answer, read_cases, read_large};
 use crate::variants::{JUDGE, checked};
 
+/// The tags that only calls on lent memory can show: by which function, with which number.
+const CALLED: [(&str, (Entry, u32)); 4] = [
+    ("refusal-11", (Entry::Plan, 11)),
+    ("refusal-12", (Entry::Plan, 12)),
+    ("refusal-13-open", (Entry::Open, 13)),
+    ("refusal-13-plan", (Entry::PlanWithFinder, 13)),
+];
 /// Steps that a fresh case may take; a hostile one is passed over.
 const FUEL: u64 = 5_000_000;
 
@@ -73,8 +80,8 @@ pub fn coverage(seed: u64, each: u64) {
     }
     let mut subject = Oracle { plan: checked, judge: JUDGE };
     let tally = crate::harness::run(&mut subject, seed, each);
-    for (tag, number) in [("refusal-11", 11), ("refusal-12", 12)] {
-        for _ in 0..tally.numbers.get(&number).copied().unwrap_or(0) {
+    for (tag, call) in CALLED {
+        for _ in 0..tally.numbers.get(&call).copied().unwrap_or(0) {
             coverage.add_tag(tag);
         }
     }
@@ -91,11 +98,11 @@ pub fn family_coverage(name: &str, seed: u64, each: u64) {
     print!("{}", coverage.table());
 }
 
-/// The tags that neither a stored case shows nor, for numbers 11 and 12, a call on lent memory, nor a small buffer.
+/// The tags that neither a stored case shows nor, for numbers 11 to 13, a call on lent memory, nor a small buffer.
 pub fn gaps(folder: &Path, tally: &Tally) -> Vec<&'static str> {
     let mut coverage = crate::stored::coverage(folder);
-    for (tag, number) in [("refusal-11", 11), ("refusal-12", 12)] {
-        if tally.numbers.contains_key(&number) {
+    for (tag, call) in CALLED {
+        if tally.numbers.contains_key(&call) {
             coverage.add_tag(tag);
         }
     }

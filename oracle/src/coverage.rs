@@ -10,7 +10,7 @@ use crate::sheet::{Cell, Query, Sheet, Source};
 pub const TAGS: &[&str] = &[
     "planned", "no-query", "too-long",
     "refusal-1", "refusal-2", "refusal-3", "refusal-4", "refusal-5", "refusal-6", "refusal-7",
-    "refusal-8", "refusal-9", "refusal-10", "refusal-11", "refusal-12",
+    "refusal-8", "refusal-9", "refusal-10", "refusal-11", "refusal-12", "refusal-13-open", "refusal-13-plan",
     "kind-1-batch", "kind-2-text", "kind-3-node", "kind-4-reference", "kind-5-cell",
     "source-batch", "source-text", "source-node", "source-reference", "source-cell", "source-missing-cell",
     "record-11-batch", "record-12-text", "record-13-point", "record-14-proxy", "record-15-totals-only",

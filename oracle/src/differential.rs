@@ -1,97 +1,56 @@
-//! The planner's static library against the judge: stored, large and fresh cases, each called on lent memory of several
-//! sizes. The answer, the tape and every lent byte are compared, and the bytes around what was lent. The sheet and the
-//! hidden layers, which are only read, lie in memory that could be written, and are compared too.
+//! The planner's static library against the judge: stored, large and fresh cases, each planned on lent memory of several
+//! sizes, opened into lists of several lengths, and planned with finders of every kind. The answer, the tape and every
+//! lent byte are compared, and the bytes around what was lent.
 
-use std::collections::BTreeMap;
+mod guarded;
+mod report;
+
 use std::fs;
-use std::hint::black_box;
+use std::mem::replace;
 use std::path::{Path, PathBuf};
 
 use crate::answer::{Answer, Lent, Refusal};
 use crate::commands::bounded;
+use crate::finders::{KINDS, Kind, Maker, ROOMS, Room, any_places, list};
 use crate::generator::rng::Rng;
 use crate::generator::{FAMILIES, large::LARGE, make, make_large};
-use crate::harness::{Subject, around, is_as_stated, lend};
+use crate::harness::{Entry, Subject, around, lend};
 use crate::judge::call::{named_places, plan};
+use crate::judge::finder;
 use crate::judge::program::split;
 use crate::sheet::Query;
+use crate::stated::Stated;
 use crate::stored::entries;
 use crate::variants::checked;
+pub use report::Report;
 
-/// Bytes, and places of 64 bits, on both sides of what is lent.
-const GUARD: usize = 16;
 /// One in so many fresh cases is called with every size around its need: a prime, so that every family has some.
 const SWEPT: u64 = 199;
 /// A file is swept if the judge's steps times the sheet's bytes are at most this: hundreds of longer calls would take
 /// minutes.
 const SWEPT_WORK: u64 = 4_000_000;
-/// The answers that a row counts: a plan, numbers 1 to 12, and cases passed over as hostile or without a query.
-const COLUMNS: usize = 14;
-const PASSED_OVER: usize = 13;
+/// A sheet of at most so many records is swept with every shorter finder, and with each place off by one.
+const SWEPT_PLACES: usize = 64;
 
-/// What the judge says of an input: a refusal by questions 1 to 10, or the tape and the named scratch.
+/// What the judge says of an input: a refusal by questions 1 to 10, or the tape; the own finder, and the memory needed.
 struct Judged {
     refusal: Option<Refusal>,
     tape: Vec<u8>,
-    counts: usize,
-    marks: usize,
+    stated: Stated,
 }
 
 fn judged(sheet: &[u8], query: &Query) -> Judged {
     match plan(checked, sheet, query) {
-        Err(refusal) => Judged { refusal: Some(refusal), tape: vec![0; 60], counts: 9, marks: 9 },
-        Ok((sheet, _, tape)) => {
-            let (counts, marks) = named_places(sheet.cells.len(), query.depth);
-            Judged { refusal: None, tape, counts, marks }
+        Err(refusal) => {
+            let own = (refusal.number > 7).then(|| finder::own(sheet));
+            Judged { refusal: Some(refusal), tape: Vec::new(), stated: Stated { own, needed: None } }
+        }
+        Ok((opened, _, tape)) => {
+            let (counts, marks) = named_places(opened.cells.len(), query.depth);
+            let needed = Some((tape.len(), counts, marks));
+            Judged { refusal: None, tape, stated: Stated { own: Some(finder::own(sheet)), needed } }
         }
     }
-}
-
-#[derive(Default)]
-pub struct Report {
-    /// Cases that were called, each with several sizes.
-    pub cases: u64,
-    /// Cases that were not called: without a query, or hostile.
-    pub passed_over: u64,
-    pub calls: u64,
-    pub differences: u64,
-    /// Tapes that are the judge's but for signs of zero, which document 01's comparison takes as equal.
-    pub zeros: u64,
-    rows: BTreeMap<String, [u64; COLUMNS]>,
-}
-
-/// A slice in the middle of its guards.
-struct Guarded<T>(Vec<T>);
-
-impl<T: Copy + PartialEq> Guarded<T> {
-    fn new(lent: &[T], guard: T) -> Self {
-        Self([&[guard; GUARD], lent, &[guard; GUARD]].concat())
-    }
-
-    fn lent(&mut self) -> &mut [T] {
-        let end = self.0.len() - GUARD;
-        &mut self.0[GUARD..end]
-    }
-
-    /// The slice, if both guards are as they were.
-    fn back(self, guard: T) -> Option<Vec<T>> {
-        let end = self.0.len() - GUARD;
-        let whole = self.0[..GUARD] == [guard; GUARD] && self.0[end..] == [guard; GUARD];
-        whole.then(|| self.0[GUARD..end].to_vec())
-    }
-}
-
-/// One call on guarded copies of what is lent: none if a byte around them changed, or the sheet, or a hidden layer.
-fn call(subject: &mut dyn Subject, sheet: &[u8], query: &Query, lent: &Lent) -> (Answer, Option<Lent>) {
-    let mut output = Guarded::new(&lent.output, 0xa5);
-    let mut counts = Guarded::new(&lent.counts, 0xa5a5_a5a5_a5a5_a5a5);
-    let mut marks = Guarded::new(&lent.marks, 0xa5);
-    let (own_sheet, own_query) = (sheet.to_vec(), query.clone());
-    let answer = subject.plan(&own_sheet, &own_query, output.lent(), counts.lent(), marks.lent());
-    // The black box: else the compiler may take for granted that what is lent shared does not change.
-    let as_read = *black_box(&own_sheet) == sheet && *black_box(&own_query.hidden) == query.hidden;
-    let after = output.back(0xa5).zip(counts.back(0xa5a5_a5a5_a5a5_a5a5)).zip(marks.back(0xa5));
-    (answer, after.filter(|_| as_read).map(|((output, counts), marks)| Lent { output, counts, marks }))
 }
 
 /// The tape with every zero positive: floats stand at the same places in records of the same kinds.
@@ -113,16 +72,17 @@ fn without_signs_of_zero(tape: &[u8]) -> Vec<u8> {
     tape
 }
 
-/// What is wrong with one call, if anything.
+/// What is wrong with one call that plans, if anything.
 fn fault(judged: &Judged, answer: Answer, before: &Lent, after: &Lent, zeros: &mut u64) -> Option<String> {
-    let needed = judged.refusal.is_none().then_some((judged.tape.len(), judged.counts, judged.marks));
     if let Some(Refusal { number, offset }) = judged.refusal
+        && !judged.stated.turns_away(before)
         && answer != (Answer { number, offset, length: 0 })
     {
         return Some(format!("answers {answer:?}, the judge refuses with {number} {offset}"));
     }
-    if !is_as_stated(answer, before, after, needed) {
+    if !judged.stated.is_so(answer, before, after) {
         let sizes = (before.output.len(), before.counts.len(), before.marks.len());
+        let needed = judged.stated.needed;
         return Some(format!("answer or memory not as stated: {answer:?}, lent {sizes:?}, needed {needed:?}"));
     }
     if answer.number != 0 {
@@ -140,25 +100,37 @@ fn fault(judged: &Judged, answer: Answer, before: &Lent, after: &Lent, zeros: &m
     Some(format!("the tape differs at byte {}", place.unwrap_or(0)))
 }
 
+/// The same of one call that opens.
+fn opening_fault(judged: &Judged, answer: Answer, before: &[u32], after: &[u32]) -> Option<String> {
+    if let Some(Refusal { number, offset }) = judged.refusal
+        && number <= 7
+        && answer != (Answer { number, offset, length: 0 })
+    {
+        return Some(format!("opening answers {answer:?}, the judge refuses with {number} {offset}"));
+    }
+    let stated = judged.stated.is_opened_so(answer, before, after);
+    (!stated).then(|| format!("opening: answer or list not as stated: {answer:?}, lent {} places", before.len()))
+}
+
 /// The sizes of one call: output, counts, marks.
 type Sizes = (usize, usize, usize);
 
-/// First room enough, then any room; for a swept case every output from 64 bytes below the tape (from 0 where the tape
-/// is short) to 8 above, and every scratch around its need.
-fn sizes(judged: &Judged, swept: bool, rng: &mut Rng) -> Vec<Sizes> {
-    let (tape, counts, marks) = (judged.tape.len(), judged.counts, judged.marks);
-    let room = |rng: &mut Rng, needed: usize| needed + rng.size(0, 9);
-    let mut list = vec![
-        (room(rng, tape), room(rng, counts), room(rng, marks)),
-        (around(rng, tape), around(rng, counts), around(rng, marks)),
-    ];
-    if swept {
-        let least = if tape < 512 { 0 } else { tape - 64 };
-        list.extend((least..=tape + 8).map(|output| (output, counts, marks)));
-        list.extend((counts.saturating_sub(8)..=counts + 8).map(|counts| (tape, counts, marks)));
-        list.extend((marks.saturating_sub(8)..=marks + 8).map(|marks| (tape, counts, marks)));
-    }
-    list
+/// Room enough, or any room.
+fn size(judged: &Judged, enough: bool, rng: &mut Rng) -> Sizes {
+    let (tape, counts, marks) = judged.stated.needed.unwrap_or((60, 9, 9));
+    let mut room = |needed: usize| if enough { needed + rng.size(0, 9) } else { around(rng, needed) };
+    (room(tape), room(counts), room(marks))
+}
+
+/// Every output from 64 bytes below the tape (from 0 where the tape is short) to 8 above, and every scratch around its
+/// need.
+fn swept_sizes(judged: &Judged) -> Vec<Sizes> {
+    let (tape, counts, marks) = judged.stated.needed.unwrap_or((60, 9, 9));
+    let least = if tape < 512 { 0 } else { tape - 64 };
+    let outputs = (least..=tape + 8).map(|output| (output, counts, marks));
+    let counted = (counts.saturating_sub(8)..=counts + 8).map(|counts| (tape, counts, marks));
+    let marked = (marks.saturating_sub(8)..=marks + 8).map(|marks| (tape, counts, marks));
+    outputs.chain(counted).chain(marked).collect()
 }
 
 /// Where the inputs of differences are kept, and how many.
@@ -180,53 +152,146 @@ impl Kept {
     }
 }
 
+/// One case under its calls.
+struct Case<'a> {
+    family: &'a str,
+    label: &'a str,
+    input: &'a [u8],
+    sheet: &'a [u8],
+    query: Query,
+    judged: Judged,
+    /// Whether a difference has been shown.
+    shown: bool,
+}
+
 struct Runner<'a> {
     subject: &'a mut dyn Subject,
     report: Report,
     kept: Kept,
+    /// The finder of the last sheet that was accepted.
+    foreign: Vec<u32>,
 }
 
-impl Runner<'_> {
+impl<'a> Runner<'a> {
+    fn new(subject: &'a mut dyn Subject, folder: &Path) -> Self {
+        let kept = Kept { folder: folder.to_path_buf(), shown: 0 };
+        Self { subject, report: Report::default(), kept, foreign: Vec::new() }
+    }
+
     /// One case in all its calls, swept if the judge's steps times the bytes are at most so many.
     fn case(&mut self, family: &str, label: &str, input: &[u8], seed: u64, swept: Option<u64>) {
-        let row = self.report.rows.entry(family.to_string()).or_default();
         let judged = split(input).and_then(|(query, start)| {
             let sheet = &input[start..];
             Some((bounded(|| judged(sheet, &query))?, query, sheet))
         });
         let Some(((judged, steps), query, sheet)) = judged else {
-            row[PASSED_OVER] += 1;
             self.report.passed_over += 1;
             return;
         };
         self.report.cases += 1;
         let swept = swept.is_some_and(|most| steps * sheet.len() as u64 <= most);
+        let mut case = Case { family, label, input, sheet, query, judged, shown: false };
         let mut rng = Rng::new(seed ^ 0xd1ff);
-        let mut first = true;
-        for (output, counts, marks) in sizes(&judged, swept, &mut rng) {
-            let before = lend(&mut rng, output, counts, marks);
-            let (answer, after) = call(self.subject, sheet, &query, &before);
-            self.report.calls += 1;
-            row[(answer.number as usize).min(PASSED_OVER - 1)] += 1;
-            let fault = match after {
-                None => Some("a byte that was not lent for writing has changed".to_string()),
-                Some(after) => fault(&judged, answer, &before, &after, &mut self.report.zeros),
-            };
-            if let Some(fault) = fault {
-                self.report.differences += 1;
-                if first {
-                    self.kept.show(family, label, input, &fault);
-                }
-                first = false;
+        self.plans(&mut case, swept, &mut rng);
+        let own = case.judged.stated.own.clone();
+        // A refused sheet has no finder of its own.
+        let places = own.clone().unwrap_or_else(|| any_places(&mut rng, 5));
+        self.openings(&mut case, &places, swept, &mut rng);
+        self.plans_with_finders(&mut case, &places, swept, &mut rng);
+        self.foreign = own.unwrap_or(replace(&mut self.foreign, Vec::new()));
+    }
+
+    /// Room enough, then any room; of a swept case every size around its need.
+    fn plans(&mut self, case: &mut Case, swept: bool, rng: &mut Rng) {
+        let mut sizes = vec![size(&case.judged, true, rng), size(&case.judged, false, rng)];
+        if swept {
+            sizes.extend(swept_sizes(&case.judged));
+        }
+        for (output, counts, marks) in sizes {
+            self.plan(case, case.family, lend(rng, output, counts, marks));
+        }
+    }
+
+    /// Lists of every length's kind; of a swept case with few records every length up to two more than needed.
+    fn openings(&mut self, case: &mut Case, places: &[u32], swept: bool, rng: &mut Rng) {
+        for room in ROOMS {
+            self.open(case, room, list(room, places.len(), rng));
+        }
+        if swept && places.len() <= SWEPT_PLACES {
+            for length in 0..=places.len() + 2 {
+                self.open(case, Room::Any, any_places(rng, length));
             }
+        }
+    }
+
+    /// The own finder with room enough, then a finder of each kind with any room; of a swept case with few records every
+    /// shorter finder, and each place off by one.
+    fn plans_with_finders(&mut self, case: &mut Case, places: &[u32], swept: bool, rng: &mut Rng) {
+        let foreign = replace(&mut self.foreign, Vec::new());
+        let maker = Maker { own: places, sheet: case.sheet, foreign: &foreign };
+        let mut finders = vec![(Kind::Own, places.to_vec())];
+        finders.extend(KINDS.map(|kind| (kind, maker.make(kind, rng))));
+        if swept && places.len() <= SWEPT_PLACES {
+            finders.extend(maker.sweep());
+        }
+        for (at, (kind, finder)) in finders.into_iter().enumerate() {
+            let (output, counts, marks) = size(&case.judged, at == 0, rng);
+            let lent = Lent { finder: Some(finder), ..lend(rng, output, counts, marks) };
+            self.plan(case, &format!("{kind:?}"), lent);
+        }
+        self.foreign = foreign;
+    }
+
+    fn plan(&mut self, case: &mut Case, row: &str, before: Lent) {
+        let (answer, after) = guarded::plan(self.subject, case.sheet, &case.query, &before);
+        let entry = if before.finder.is_some() { Entry::PlanWithFinder } else { Entry::Plan };
+        self.report.add(entry, row, answer.number);
+        if answer.number == 13 {
+            self.report.add_turned_away(case.judged.number_without_finder(&before));
+        }
+        let fault = match after {
+            None => Some("a byte that was not lent for writing has changed".to_string()),
+            Some(after) => fault(&case.judged, answer, &before, &after, &mut self.report.zeros),
+        };
+        self.note(case, fault.map(|fault| format!("{entry:?}, {row}: {fault}")));
+    }
+
+    fn open(&mut self, case: &mut Case, room: Room, before: Vec<u32>) {
+        let (answer, after) = guarded::open(self.subject, case.sheet, &before);
+        self.report.add(Entry::Open, &format!("{room:?}"), answer.number);
+        let fault = match after {
+            None => Some("opening: a byte that was not lent for writing has changed".to_string()),
+            Some(after) => opening_fault(&case.judged, answer, &before, &after),
+        };
+        self.note(case, fault);
+    }
+
+    /// Of each case the first difference is shown.
+    fn note(&mut self, case: &mut Case, fault: Option<String>) {
+        if let Some(fault) = fault {
+            self.report.differences += 1;
+            if !replace(&mut case.shown, true) {
+                self.kept.show(case.family, case.label, case.input, &fault);
+            }
+        }
+    }
+}
+
+impl Judged {
+    /// What the same call answers without a finder.
+    fn number_without_finder(&self, lent: &Lent) -> u32 {
+        match (self.refusal, self.stated.needed) {
+            (Some(refusal), _) => refusal.number,
+            (None, Some((_, counts, marks))) if lent.counts.len() < counts || lent.marks.len() < marks => 11,
+            (None, Some((tape, ..))) if lent.output.len() < tape => 12,
+            _ => 0,
         }
     }
 }
 
 /// Every file of a folder, as a fuzzer leaves them; with every size where that is soon done.
 pub fn run_files(subject: &mut dyn Subject, files: &Path, folder: &Path) -> Report {
-    let kept = Kept { folder: folder.to_path_buf(), shown: 0 };
-    let mut runner = Runner { subject, report: Report::default(), kept };
+    let mut runner = Runner::new(subject, folder);
     let mut names: Vec<PathBuf> = fs::read_dir(files).expect("a folder").map(|entry| entry.unwrap().path()).collect();
     names.sort();
     for (place, name) in names.iter().enumerate() {
@@ -238,8 +303,7 @@ pub fn run_files(subject: &mut dyn Subject, files: &Path, folder: &Path) -> Repo
 
 /// Every stored case with every size, every large case, and `count` fresh ones from a seed on, family by family.
 pub fn run(subject: &mut dyn Subject, count: u64, seed: u64, folder: &Path) -> Report {
-    let kept = Kept { folder: folder.to_path_buf(), shown: 0 };
-    let mut runner = Runner { subject, report: Report::default(), kept };
+    let mut runner = Runner::new(subject, folder);
     for (place, entry) in entries().iter().enumerate() {
         runner.case("stored", &format!("{} {}", entry.family, entry.label), &entry.input, place as u64, Some(u64::MAX));
     }
@@ -255,23 +319,4 @@ pub fn run(subject: &mut dyn Subject, count: u64, seed: u64, folder: &Path) -> R
         runner.case(family.name, &label, &make(family, seed), seed, swept);
     }
     runner.report
-}
-
-impl Report {
-    /// A row for each family: the calls by what was answered.
-    pub fn table(&self) -> String {
-        let mut text = format!("{:<14}{:>9}", "family", "planned");
-        for number in 1..=12 {
-            text += &format!("{number:>8}");
-        }
-        text += "   passed over\n";
-        for (family, row) in &self.rows {
-            text += &format!("{family:<14}{:>9}", row[0]);
-            for number in 1..=12 {
-                text += &format!("{:>8}", row[number]);
-            }
-            text += &format!("{:>14}\n", row[PASSED_OVER]);
-        }
-        text
-    }
 }

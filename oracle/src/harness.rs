@@ -4,25 +4,30 @@
 //! the Rattle planner (`library.rs`), which `differential.rs` runs over every family.
 
 use std::collections::BTreeMap;
+use std::mem::replace;
 
 use crate::answer::{Answer, Judge, Lent, PlanFn};
+use crate::finders::{KINDS, Maker, ROOMS, any_places, list};
 use crate::generator::rng::Rng;
 use crate::generator::{FAMILIES, Family, make};
-use crate::judge::call::plan;
 use crate::judge::program::split;
 use crate::sheet::Query;
+use crate::stated::{Stated, stated};
 use crate::variants::{JUDGE, checked};
 
-/// One call of a planner: nothing but the lent slices may change.
+/// What is lent to one call that plans. The finder is only read, but a faulty subject may write it.
+pub struct Slices<'a> {
+    pub finder: Option<&'a mut [u32]>,
+    pub output: &'a mut [u8],
+    pub counts: &'a mut [u64],
+    pub marks: &'a mut [u8],
+}
+
+/// The calls of a planner: nothing but the lent slices may change.
 pub trait Subject {
-    fn plan(
-        &mut self,
-        sheet: &[u8],
-        query: &Query,
-        output: &mut [u8],
-        counts: &mut [u64],
-        marks: &mut [u8],
-    ) -> Answer;
+    /// Plans, with a finder where one is lent.
+    fn plan(&mut self, sheet: &[u8], query: &Query, lent: Slices) -> Answer;
+    fn open(&mut self, sheet: &[u8], list: &mut [u32]) -> Answer;
 }
 
 /// The judge as a subject, with a planted mistake or without.
@@ -32,22 +37,34 @@ pub struct Oracle {
 }
 
 impl Subject for Oracle {
-    fn plan(
-        &mut self,
-        sheet: &[u8],
-        query: &Query,
-        output: &mut [u8],
-        counts: &mut [u64],
-        marks: &mut [u8],
-    ) -> Answer {
-        let mut lent =
-            Lent { output: output.to_vec(), counts: counts.to_vec(), marks: marks.to_vec() };
-        let answer = (self.judge.call)(self.plan, sheet, query, &mut lent);
-        output.copy_from_slice(&lent.output);
-        counts.copy_from_slice(&lent.counts);
-        marks.copy_from_slice(&lent.marks);
+    fn plan(&mut self, sheet: &[u8], query: &Query, lent: Slices) -> Answer {
+        let mut own = Lent {
+            finder: lent.finder.as_ref().map(|finder| finder.to_vec()),
+            output: lent.output.to_vec(),
+            counts: lent.counts.to_vec(),
+            marks: lent.marks.to_vec(),
+        };
+        let answer = (self.judge.call)(self.plan, sheet, query, &mut own);
+        if let Some((finder, own)) = lent.finder.zip(own.finder) {
+            finder.copy_from_slice(&own);
+        }
+        lent.output.copy_from_slice(&own.output);
+        lent.counts.copy_from_slice(&own.counts);
+        lent.marks.copy_from_slice(&own.marks);
         answer
     }
+
+    fn open(&mut self, sheet: &[u8], list: &mut [u32]) -> Answer {
+        (self.judge.open)(sheet, list)
+    }
+}
+
+/// The library's functions that are called.
+#[derive(Clone, Copy, Debug, PartialEq, Eq, PartialOrd, Ord)]
+pub enum Entry {
+    Plan,
+    Open,
+    PlanWithFinder,
 }
 
 #[derive(Default)]
@@ -55,11 +72,27 @@ pub struct Tally {
     pub calls: u64,
     /// Calls whose answer or memory differs from the judge's.
     pub differences: u64,
-    /// Calls whose answer or memory is not as document 01's sentences say, whatever the judge does.
+    /// Calls whose answer or memory is not as the papers' sentences say, whatever the judge does.
     pub broken: u64,
     pub first: Option<String>,
     /// Calls by the number that was answered.
-    pub numbers: BTreeMap<u32, u64>,
+    pub numbers: BTreeMap<(Entry, u32), u64>,
+}
+
+impl Tally {
+    /// Counts one call, by what the judge answers; of the first fault, what it is.
+    fn add(&mut self, case: &str, entry: Entry, number: u32, is_so: bool, difference: Option<String>) {
+        self.calls += 1;
+        *self.numbers.entry((entry, number)).or_default() += 1;
+        if !is_so {
+            self.broken += 1;
+            self.first.get_or_insert(format!("{case}, {entry:?}: answer or memory not as stated, the judge has {number}"));
+        }
+        if let Some(difference) = difference {
+            self.differences += 1;
+            self.first.get_or_insert(format!("{case}, {entry:?}: {difference}"));
+        }
+    }
 }
 
 /// A size at or around the one that is needed.
@@ -76,96 +109,108 @@ pub fn around(rng: &mut Rng, needed: usize) -> usize {
 /// Memory of those sizes, filled so that each place can be told from zero and from its neighbour.
 pub fn lend(rng: &mut Rng, output: usize, counts: usize, marks: usize) -> Lent {
     Lent {
+        finder: None,
         output: (0..output).map(|_| rng.next() as u8 | 1).collect(),
         counts: (0..counts).map(|_| rng.next() | 1).collect(),
         marks: (0..marks).map(|_| rng.next() as u8 | 1).collect(),
     }
 }
 
-fn difference(answers: (Answer, Answer), after: (&Lent, &Lent)) -> Option<String> {
-    if answers.0 != answers.1 {
-        return Some(format!("answers {:?}, expected {:?}", answers.1, answers.0));
-    }
-    let place = |name: &str, unlike: Option<usize>| unlike.map(|at| format!("{name} differs at place {at}"));
-    let (own, other) = after;
-    place("output", own.output.iter().zip(&other.output).position(|(a, b)| a != b))
-        .or_else(|| place("counts", own.counts.iter().zip(&other.counts).position(|(a, b)| a != b)))
-        .or_else(|| place("marks", own.marks.iter().zip(&other.marks).position(|(a, b)| a != b)))
+/// The first place at which two slices of one length differ.
+fn unlike<T: PartialEq>(name: &str, own: &[T], other: &[T]) -> Option<String> {
+    own.iter().zip(other).position(|(a, b)| a != b).map(|at| format!("{name} differs at place {at}"))
 }
 
-/// Document 01's sentences on memory, said of the subject's call by themselves. `needed` are the tape's bytes, the
-/// counts and the marks that an accepted sheet and query call for; none where questions 1 to 10 refuse.
-pub fn is_as_stated(answer: Answer, before: &Lent, after: &Lent, needed: Option<(usize, usize, usize)>) -> bool {
-    let Some((tape, counts, marks)) = needed else {
-        return (1..=10).contains(&answer.number) && after == before;
-    };
-    if before.counts.len() < counts || before.marks.len() < marks {
-        return answer == (Answer { number: 11, offset: 0, length: 0 }) && after == before;
-    }
-    let scratch = after.counts[..counts].iter().all(|&count| count == 0)
-        && after.marks[..marks].iter().all(|&mark| mark == 0)
-        && after.counts[counts..] == before.counts[counts..]
-        && after.marks[marks..] == before.marks[marks..];
-    if before.output.len() < tape {
-        let zeroed = after.output.iter().all(|&byte| byte == 0);
-        // The length that would have been enough, for a caller to lend.
-        return answer == (Answer { number: 12, offset: 0, length: tape as u64 }) && scratch && zeroed;
-    }
-    let past = after.output[tape..] == before.output[tape..];
-    answer == (Answer { number: 0, offset: 0, length: tape as u64 }) && scratch && past
+fn answers_unlike(expected: Answer, answered: Answer) -> Option<String> {
+    (expected != answered).then(|| format!("answers {answered:?}, expected {expected:?}"))
 }
 
-/// One generated case: the judge's call against the subject's, on equal memory.
-fn one(subject: &mut dyn Subject, name: &str, seed: u64, input: &[u8], tally: &mut Tally) {
-    let Some((query, start)) = split(input) else { return };
-    let sheet = &input[start..];
-    let mut rng = Rng::new(seed ^ 0x1e47);
-    // "cells x depth 64-bit places, and the marks scratch cells x (depth + 2) bytes"
-    let needed = plan(checked, sheet, &query).ok().map(|(sheet, _, tape)| {
-        let (cells, depth) = (sheet.cells.len(), query.depth as usize);
-        (tape.len(), cells * depth, cells * (depth + 2))
-    });
-    let (tape, counts, marks) = needed.unwrap_or((60, 9, 9));
-    let sizes = (around(&mut rng, tape), around(&mut rng, counts), around(&mut rng, marks));
-    let before = lend(&mut rng, sizes.0, sizes.1, sizes.2);
-    let (mut own, mut other) = (before.clone(), before.clone());
-    let expected = (JUDGE.call)(checked, sheet, &query, &mut own);
-    let answered =
-        subject.plan(sheet, &query, &mut other.output, &mut other.counts, &mut other.marks);
-    tally.calls += 1;
-    *tally.numbers.entry(expected.number).or_default() += 1;
-    if !is_as_stated(answered, &before, &other, needed) {
-        tally.broken += 1;
-        tally.first.get_or_insert(format!("{name}, seed {seed}: not as stated, {answered:?}"));
+fn lent_unlike(own: &Lent, other: &Lent) -> Option<String> {
+    let finder = |lent: &Lent| lent.finder.clone().unwrap_or_default();
+    unlike("output", &own.output, &other.output)
+        .or_else(|| unlike("counts", &own.counts, &other.counts))
+        .or_else(|| unlike("marks", &own.marks, &other.marks))
+        .or_else(|| unlike("finder", &finder(own), &finder(other)))
+}
+
+/// The run of one subject over generated cases: each is planned, opened, and planned with a finder, on equal memory with
+/// the judge.
+struct Run<'a> {
+    subject: &'a mut dyn Subject,
+    tally: Tally,
+    /// The places of the last sheet that was accepted.
+    foreign: Vec<u32>,
+}
+
+impl Run<'_> {
+    fn case(&mut self, name: &str, seed: u64, input: &[u8]) {
+        let Some((query, start)) = split(input) else { return };
+        let sheet = &input[start..];
+        let case = format!("{name}, seed {seed}");
+        let mut rng = Rng::new(seed ^ 0x1e47);
+        let stated = stated(sheet, &query);
+        self.plan(&case, sheet, &query, &stated, None, &mut rng);
+        let own = stated.own.clone().unwrap_or_else(|| any_places(&mut rng, 5));
+        self.open(&case, sheet, &stated, list(rng.pick(&ROOMS), own.len(), &mut rng));
+        let foreign = replace(&mut self.foreign, own.clone());
+        let finder = Maker { own: &own, sheet, foreign: &foreign }.make(rng.pick(&KINDS), &mut rng);
+        self.plan(&case, sheet, &query, &stated, Some(finder), &mut rng);
     }
-    if let Some(difference) = difference((expected, answered), (&own, &other)) {
-        tally.differences += 1;
-        tally.first.get_or_insert(format!("{name}, seed {seed}: {difference}"));
+
+    fn plan(&mut self, case: &str, sheet: &[u8], query: &Query, stated: &Stated, finder: Option<Vec<u32>>, rng: &mut Rng) {
+        let entry = if finder.is_some() { Entry::PlanWithFinder } else { Entry::Plan };
+        let (tape, counts, marks) = stated.needed.unwrap_or((60, 9, 9));
+        let sizes = (around(rng, tape), around(rng, counts), around(rng, marks));
+        let before = Lent { finder, ..lend(rng, sizes.0, sizes.1, sizes.2) };
+        let (mut own, mut other) = (before.clone(), before.clone());
+        let expected = (JUDGE.call)(checked, sheet, query, &mut own);
+        let answered = self.subject.plan(sheet, query, other.slices());
+        let difference = answers_unlike(expected, answered).or_else(|| lent_unlike(&own, &other));
+        self.tally.add(case, entry, expected.number, stated.is_so(answered, &before, &other), difference);
+    }
+
+    fn open(&mut self, case: &str, sheet: &[u8], stated: &Stated, before: Vec<u32>) {
+        let (mut own, mut other) = (before.clone(), before.clone());
+        let expected = (JUDGE.open)(sheet, &mut own);
+        let answered = self.subject.open(sheet, &mut other);
+        let difference = answers_unlike(expected, answered).or_else(|| unlike("the list", &own, &other));
+        self.tally.add(case, Entry::Open, expected.number, stated.is_opened_so(answered, &before, &other), difference);
+    }
+}
+
+impl Lent {
+    pub fn slices(&mut self) -> Slices<'_> {
+        Slices {
+            finder: self.finder.as_deref_mut(),
+            output: &mut self.output,
+            counts: &mut self.counts,
+            marks: &mut self.marks,
+        }
     }
 }
 
 /// `count` cases from a seed on, family by family.
 pub fn run(subject: &mut dyn Subject, seed: u64, count: u64) -> Tally {
-    let mut tally = Tally::default();
+    let mut run = Run { subject, tally: Tally::default(), foreign: Vec::new() };
     for (family, seed) in cases(seed, count) {
-        one(subject, family.name, seed, &make(family, seed), &mut tally);
+        run.case(family.name, seed, &make(family, seed));
     }
-    tally
+    run.tally
 }
 
 /// The same up to the first difference, without inputs of more than `most` bytes.
 pub fn run_to_difference(subject: &mut dyn Subject, seed: u64, count: u64, most: usize) -> Tally {
-    let mut tally = Tally::default();
+    let mut run = Run { subject, tally: Tally::default(), foreign: Vec::new() };
     for (family, seed) in cases(seed, count) {
         let input = make(family, seed);
         if input.len() <= most {
-            one(subject, family.name, seed, &input, &mut tally);
+            run.case(family.name, seed, &input);
         }
-        if tally.differences > 0 {
+        if run.tally.differences > 0 {
             break;
         }
     }
-    tally
+    run.tally
 }
 
 fn cases(seed: u64, count: u64) -> impl Iterator<Item = (&'static Family, u64)> {

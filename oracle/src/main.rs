@@ -13,6 +13,7 @@ mod coverage;
 mod differential;
 mod edits;
 mod events;
+mod finders;
 mod generator;
 mod harness;
 mod judge;
@@ -24,6 +25,7 @@ mod race;
 mod readings;
 mod sha256;
 mod sheet;
+mod stated;
 mod stored;
 mod timing;
 mod variants;
@@ -87,11 +89,11 @@ fn main() {
         "memory" => memory(number(2, 0), number(1, 1_000)),
         "timings" => timing::run(),
         #[cfg(feature = "library")]
-        "differential" => judge_library(|subject, folder| {
+        "differential" => judge_library(true, |subject, folder| {
             differential::run(subject, number(1, 10_000), number(2, 0), folder)
         }),
         #[cfg(feature = "library")]
-        "files" => judge_library(|subject, folder| {
+        "files" => judge_library(false, |subject, folder| {
             differential::run_files(subject, Path::new(&arguments[1]), folder)
         }),
         #[cfg(feature = "library")]
@@ -134,32 +136,39 @@ fn cover(seed: u64, count: u64) {
     verdict(((tally.sheets - tally.faults) as usize, tally.faults as usize));
 }
 
-/// Calls on lent memory: the judge's own answers and memory against document 01's sentences.
+/// Calls on lent memory: the judge's own answers and memory against the papers' sentences.
 fn memory(seed: u64, count: u64) {
     let mut subject = harness::Oracle { plan: variants::copies().instrumented, judge: variants::JUDGE };
     let tally = harness::run(&mut subject, seed, count);
-    println!("calls by number: {:?}", tally.numbers);
+    for entry in [harness::Entry::Plan, harness::Entry::Open, harness::Entry::PlanWithFinder] {
+        let mine = tally.numbers.iter().filter(|((other, _), _)| *other == entry);
+        let numbers: Vec<String> = mine.map(|((_, number), calls)| format!("{number}: {calls}")).collect();
+        println!("{entry:?}, calls by number: {}", numbers.join(", "));
+    }
     if let Some(first) = &tally.first {
         println!("first fault: {first}");
     }
     verdict(((tally.calls - tally.broken) as usize, tally.broken as usize));
 }
 
-/// The static library against the judge.
+/// The static library against the judge. A whole run must meet every answer and every kind of list.
 #[cfg(feature = "library")]
-fn judge_library(run: impl FnOnce(&mut dyn harness::Subject, &Path) -> differential::Report) {
+fn judge_library(whole: bool, run: impl FnOnce(&mut dyn harness::Subject, &Path) -> differential::Report) {
     let folder = Path::new(env!("CARGO_MANIFEST_DIR")).join("target/differential");
     let report = run(&mut library::Library, &folder);
     print!("{}", report.table());
+    let calls = report.all_calls();
     println!(
-        "{} cases compared, {} passed over (no query, or hostile); {} calls; tapes alike but for signs of zero: {}",
-        report.cases, report.passed_over, report.calls, report.zeros
+        "{} cases compared, {} passed over (no query, or hostile); {calls} calls; tapes alike but for signs of zero: {}",
+        report.cases, report.passed_over, report.zeros
     );
-    if report.calls == 0 {
+    if calls == 0 {
         println!("nothing was compared");
         verdict((0, 1));
     }
-    verdict(((report.calls - report.differences) as usize, report.differences as usize));
+    let missing = if whole { report.missing() } else { Vec::new() };
+    missing.iter().for_each(|what| println!("not met: {what}"));
+    verdict(((calls - report.differences) as usize, report.differences as usize + missing.len()));
 }
 
 /// The quick tests: both copies on fresh cases, stored answers, planted mistakes, brute force, memory.

@@ -82,7 +82,7 @@ impl Store {
     }
 }
 
-/// Whether a call differs from the judge's, and whether one is not as document 01's sentences say.
+/// Whether a call differs from the judge's, and whether one is not as the papers' sentences say.
 fn memory_sees(number: usize, mistake: &Planted) -> (bool, bool) {
     let (plan, judge) = parts(mistake);
     let mut subject = harness::Oracle { plan, judge };
@@ -125,7 +125,7 @@ fn report(number: usize, mistake: &Planted, store: &Store, whole: bool) -> (Stri
         }
         Seen::Memory => {
             let seen = memory_sees(number, mistake) == (true, true) && stored.is_none();
-            (if seen { "memory after a call, by comparison and by document 01's sentences".into() } else { "NOT SEEN by memory runs alone".into() }, seen)
+            (if seen { "memory after a call, by comparison and by the papers' sentences".into() } else { "NOT SEEN by memory runs alone".into() }, seen)
         }
         Seen::Never(reason) => {
             let unseen = stored.is_none() && memory_sees(number, mistake) == (false, false);

@@ -36,7 +36,7 @@ fn round(bytes: &[u8], sheet: &Sheet, query: &Query, lent: &mut Lent, length: u6
     let (checked, number) = timed(|| check(black_box(bytes)).0);
     assert_eq!(number, 0, "a sound sheet");
     let (whole, answer) = timed(|| {
-        Library.plan(black_box(bytes), query, &mut lent.output, &mut lent.counts, &mut lent.marks)
+        Library.plan(black_box(bytes), query, lent.slices())
     });
     assert_eq!((answer.number, answer.length), (0, length), "a plan of the judge's length");
     let (read, _) = timed(|| reader::open(black_box(bytes)));
@@ -58,7 +58,7 @@ fn row(name: &str, input: &[u8], most: usize) -> Option<String> {
     let sheet = reader::open(bytes).ok()?;
     let expected = tape::write(&(copies().instrumented)(&sheet, &query, Settings::DOCUMENT));
     let (counts, marks) = named_places(sheet.cells.len(), query.depth);
-    let mut lent = Lent { output: vec![0; expected.len()], counts: vec![0; counts], marks: vec![0; marks] };
+    let mut lent = Lent { finder: None, output: vec![0; expected.len()], counts: vec![0; counts], marks: vec![0; marks] };
     let start = Instant::now();
     let mut rounds = Vec::new();
     while rounds.len() < most && (rounds.is_empty() || start.elapsed() < PATIENCE) {

@@ -2,6 +2,7 @@
 
 use crate::answer::{Copies, Judge};
 use crate::events::{Limits, Run, Settings, lists_of};
+use crate::judge;
 use crate::sheet::{Query, Sheet};
 
 mod made {
@@ -13,9 +14,8 @@ mod made {
 
 pub use made::COPIES;
 
-/// The judge of document 01, with no mistake planted.
-pub const JUDGE: Judge =
-    Judge { program: crate::judge::program::program, call: crate::judge::call::call };
+/// The judge, with no mistake planted.
+pub const JUDGE: Judge = Judge { program: judge::program::program, call: judge::call::call, open: judge::finder::open };
 
 /// The copies, or a plain end where the Rust source was absent at build time.
 pub fn copies() -> Copies {

@@ -1,7 +1,7 @@
-// Questions 8 to 12 and one call of the library: the answer, and every lent place after it.
-// States document 01's "Before a plan"; the sizes that were lent are part of the question.
+// The questions in their order, and one call of the library that plans: the answer, and every lent place after it.
+// States document 01's "Before a plan" and document 02's Paper 1; the sizes that were lent are part of the question.
 
-use super::{reader, tape};
+use super::{finder, reader, tape};
 use crate::answer::{Answer, Lent, PlanFn, Refusal};
 use crate::events::{Run, Settings};
 use crate::sheet::{Query, Sheet};
@@ -25,10 +25,19 @@ pub fn check_query(query: &Query) -> Result<(), Refusal> {
     Ok(())
 }
 
+/// Questions 1 to 7, then 13 where a finder is lent, then 8 to 10.
+fn ask(bytes: &[u8], finder: Option<&[u32]>, query: &Query) -> Result<Sheet, Refusal> {
+    let sheet = reader::open(bytes)?;
+    if let Some(finder) = finder {
+        finder::check(bytes, finder)?;
+    }
+    check_query(query)?;
+    Ok(sheet)
+}
+
 /// Questions 1 to 10, then the plan and its tape.
 pub fn plan(plan: PlanFn, sheet: &[u8], query: &Query) -> Result<(Sheet, Run, Vec<u8>), Refusal> {
-    let sheet = reader::open(sheet)?;
-    check_query(query)?;
+    let sheet = ask(sheet, None, query)?;
     let run = plan(&sheet, query, Settings::DOCUMENT);
     let tape = tape::write(&run);
     Ok((sheet, run, tape))
@@ -39,12 +48,24 @@ pub fn named_places(cells: usize, depth: u32) -> (usize, usize) {
     (cells * depth as usize, cells * (depth as usize + 2))
 }
 
-/// One call of the library, with all that is lent to it.
+/// "Numbers from 13 on zero every lent output and all scratch": not only the named places. The finder is only read.
+fn zero_all(lent: &mut Lent) {
+    lent.output.fill(0);
+    lent.counts.fill(0);
+    lent.marks.fill(0);
+}
+
+/// One call of the library, with all that is lent to it: a finder too where the call plans with one.
 pub fn call(plan: PlanFn, sheet: &[u8], query: &Query, lent: &mut Lent) -> Answer {
     let refused = |refusal: Refusal| Answer { number: refusal.number, offset: refusal.offset, length: 0 };
-    let opened = match reader::open(sheet).and_then(|opened| check_query(query).map(|()| opened)) {
+    let opened = match ask(sheet, lent.finder.as_deref(), query) {
         Ok(opened) => opened,
-        Err(refusal) => return refused(refusal),
+        Err(refusal) => {
+            if refusal.number >= 13 {
+                zero_all(lent);
+            }
+            return refused(refusal);
+        }
     };
     let (counts, marks) = named_places(opened.cells.len(), query.depth);
     if lent.counts.len() < counts || lent.marks.len() < marks {

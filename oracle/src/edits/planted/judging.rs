@@ -91,7 +91,7 @@ pub const TABLE: &[Planted] = &[
     mistake!("zoom is asked before the view", Call, Seen::Stored,
         (1, "    let [min_x, min_y, max_x, max_y] = query.view;", "    if !(query.zoom.is_finite() && query.zoom > 0.0) {\n        return refuse(9);\n    }\n    let [min_x, min_y, max_x, max_y] = query.view;")),
     mistake!("the query is asked before the sheet", Call, Seen::Stored,
-        (1, "    let sheet = reader::open(sheet)?;\n    check_query(query)?;", "    check_query(query)?;\n    let sheet = reader::open(sheet)?;")),
+        (1, "    let sheet = reader::open(bytes)?;\n", "    check_query(query)?;\n    let sheet = reader::open(bytes)?;\n")),
     mistake!("counts need one place more", Call, Seen::Memory,
         (1, "lent.counts.len() < counts", "lent.counts.len() <= counts")),
     mistake!("marks need depth + 1 bytes a cell", Call, Seen::Memory,

@@ -1,8 +1,9 @@
-// Planted mistakes: misreadings of document 01, each made in a copy of the instrumented planner, of its stand-ins
+// Planted mistakes: misreadings of document 01 and of document 02's papers, each made in a copy of the instrumented planner, of its stand-ins
 // or of the judge. build.rs asserts every edit; the subcommand `planted` shows which cases detect each.
 
 mod collapsing;
 mod counting;
+mod finding;
 mod judging;
 mod placing;
 mod visiting;
@@ -14,6 +15,7 @@ use super::Edit;
 pub enum Place {
     Planner,
     Reader,
+    Finder,
     Call,
     Tape,
     Program,
@@ -54,6 +56,7 @@ macro_rules! mistake {
 use mistake;
 
 pub fn all() -> impl Iterator<Item = &'static Planted> {
-    let tables = [placing::TABLE, collapsing::TABLE, counting::TABLE, visiting::TABLE, judging::TABLE];
+    let tables =
+        [placing::TABLE, collapsing::TABLE, counting::TABLE, visiting::TABLE, judging::TABLE, finding::TABLE];
     tables.into_iter().flatten()
 }
