@@ -106,13 +106,23 @@ pub fn around(rng: &mut Rng, needed: usize) -> usize {
     }
 }
 
+/// Bytes at random, none of them 0.
+fn any_bytes(rng: &mut Rng, count: usize) -> Vec<u8> {
+    let mut bytes = Vec::with_capacity(count + 8);
+    while bytes.len() < count {
+        bytes.extend((rng.next() | 0x0101_0101_0101_0101).to_le_bytes());
+    }
+    bytes.truncate(count);
+    bytes
+}
+
 /// Memory of those sizes, filled so that each place can be told from zero and from its neighbour.
 pub fn lend(rng: &mut Rng, output: usize, counts: usize, marks: usize) -> Lent {
     Lent {
         finder: None,
-        output: (0..output).map(|_| rng.next() as u8 | 1).collect(),
+        output: any_bytes(rng, output),
         counts: (0..counts).map(|_| rng.next() | 1).collect(),
-        marks: (0..marks).map(|_| rng.next() as u8 | 1).collect(),
+        marks: any_bytes(rng, marks),
     }
 }
 
