@@ -38,7 +38,7 @@ const USAGE: &str = "oracle COMMAND: plan [BUFFER] | planted-plan NUMBER | edits
   coverage EACH [SEED [FAMILY]] |
   cases EACH [SEED] | large NUMBER | store | verify | replay | choose SEEDS [FAMILY] | planted | cover COUNT [SEED] |
   memory COUNT [SEED] | timings | quick
-  with the feature `library`: differential COUNT [SEED] | files FOLDER | race [ROUNDS]";
+  with the feature `library`: differential COUNT [SEED] | files FOLDER | race [ROUNDS [NAME]]";
 
 fn stored_folder() -> PathBuf {
     Path::new(env!("CARGO_MANIFEST_DIR")).join("stored")
@@ -97,7 +97,7 @@ fn main() {
             differential::run_files(subject, Path::new(&arguments[1]), folder)
         }),
         #[cfg(feature = "library")]
-        "race" => race::run(number(1, 15) as usize),
+        "race" => exit(i32::from(!race::run(number(1, 15) as usize, arguments.get(2).map_or("", String::as_str)))),
         "quick" => quick(&folder),
         _ => {
             eprintln!("{USAGE}");

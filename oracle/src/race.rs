@@ -1,20 +1,23 @@
 //! The planner's static library against the Rust on large sheets, in one run: each round takes every measurement once,
-//! one after the other, and the least and the median of each are given. `bench/plan/run` prints this table.
+//! one after the other, and the least and the median of each are given. `bench/plan/run` prints this table and the bounds.
 //!
-//! Ours works on the sheet's bytes. *check* is questions 1 to 7 alone (`sheet_check`), *plan* is the time of the whole
-//! call less that of the check. The Rust plans on a prepared library. *build* reads the bytes (the judge's reader) and
-//! prepares that library, *plan* is `PreparedLibrary::plan` of the unmodified copy alone.
+//! Ours works on the sheet's bytes. *questions* is questions 1 to 7 alone (`sheet_check`), *with finder* a whole call with
+//! the sheet's own finder, *without* a whole call without one, *opening* the call that fills the finder. *asked* is a call
+//! with the own finder at depth 33, which number 10 refuses: it asks questions 1 to 7, compares the finder and plans
+//! nothing. So *plan* is the time with a finder less that of *asked*. The Rust plans on a prepared library. *build* reads
+//! the bytes (the judge's reader) and prepares that library, *Rust plan* is `PreparedLibrary::plan` of the unmodified copy
+//! alone.
 
 use std::hint::black_box;
 use std::time::{Duration, Instant};
 
 use crate::answer::Lent;
 use crate::events::Settings;
-use crate::generator::{large::LARGE, make_large};
+use crate::generator::{large::LARGE, large::Large, make_large};
 use crate::harness::Subject;
-use crate::judge::call::named_places;
+use crate::judge::call::{MAX_DEPTH, named_places};
 use crate::judge::program::split;
-use crate::judge::{reader, tape};
+use crate::judge::{finder, reader, tape};
 use crate::library::{Library, check};
 use crate::sheet::{Query, Sheet};
 use crate::timing::SHEETS;
@@ -22,78 +25,175 @@ use crate::variants::copies;
 
 /// No round of a sheet begins after this: the rounds that were made are counted in the table.
 const PATIENCE: Duration = Duration::from_secs(60);
+/// After this a sheet is not planned without a finder again: the walks of a large one take minutes.
+const WALKING_PATIENCE: Duration = Duration::from_secs(5);
 
-/// Our check, our whole call, the Rust's build and the Rust's plan in one round.
-type Round = [Duration; 4];
+/// What is measured, in the order of the table.
+const PARTS: [&str; 7] =
+    ["questions", "asked", "opening", "with finder", "without", "Rust build", "Rust plan"];
 
-fn timed<T>(run: impl FnOnce() -> T) -> (Duration, T) {
+fn timed<T>(run: impl FnOnce() -> T) -> (f64, T) {
     let start = Instant::now();
     let result = black_box(run());
-    (start.elapsed(), result)
+    (start.elapsed().as_secs_f64() * 1e3, result)
 }
 
-fn round(bytes: &[u8], sheet: &Sheet, query: &Query, lent: &mut Lent, length: u64) -> Round {
-    let (checked, number) = timed(|| check(black_box(bytes)).0);
-    assert_eq!(number, 0, "a sound sheet");
-    let (whole, answer) = timed(|| {
-        Library.plan(black_box(bytes), query, lent.slices())
-    });
-    assert_eq!((answer.number, answer.length), (0, length), "a plan of the judge's length");
-    let (read, _) = timed(|| reader::open(black_box(bytes)));
-    let [prepared, planned] = (copies().timed)(sheet, query);
-    [checked, whole, read + prepared, planned]
+/// A sheet that is raced: what is planned, what must come out, and the times in milliseconds.
+struct Race<'a> {
+    bytes: &'a [u8],
+    sheet: Sheet,
+    query: Query,
+    expected: Vec<u8>,
+    lent: Lent,
+    own: Vec<u32>,
+    times: [Vec<f64>; 7],
 }
 
-/// The least and the median of one measurement, in milliseconds.
-fn figures(rounds: &[Round], place: usize) -> (f64, f64) {
-    let mut times: Vec<f64> = rounds.iter().map(|round| round[place].as_secs_f64() * 1e3).collect();
-    times.sort_by(f64::total_cmp);
-    (times[0], (times[(times.len() - 1) / 2] + times[times.len() / 2]) / 2.0)
-}
-
-/// A row of the table, for a case that is planned.
-fn row(name: &str, input: &[u8], most: usize) -> Option<String> {
-    let (query, start) = split(input)?;
-    let bytes = &input[start..];
-    let sheet = reader::open(bytes).ok()?;
-    let expected = tape::write(&(copies().instrumented)(&sheet, &query, Settings::DOCUMENT));
-    let (counts, marks) = named_places(sheet.cells.len(), query.depth);
-    let mut lent = Lent { finder: None, output: vec![0; expected.len()], counts: vec![0; counts], marks: vec![0; marks] };
-    let start = Instant::now();
-    let mut rounds = Vec::new();
-    while rounds.len() < most && (rounds.is_empty() || start.elapsed() < PATIENCE) {
-        rounds.push(round(bytes, &sheet, &query, &mut lent, expected.len() as u64));
+impl<'a> Race<'a> {
+    /// None for a sheet that is refused.
+    fn new(input: &'a [u8]) -> Option<Self> {
+        let (query, start) = split(input)?;
+        let bytes = &input[start..];
+        let sheet = reader::open(bytes).ok()?;
+        let expected = tape::write(&(copies().instrumented)(&sheet, &query, Settings::DOCUMENT));
+        let (counts, marks) = named_places(sheet.cells.len(), query.depth);
+        let lent = Lent { finder: None, output: vec![0; expected.len()], counts: vec![0; counts], marks: vec![0; marks] };
+        Some(Self { bytes, sheet, query, expected, lent, own: finder::own(bytes), times: Default::default() })
     }
-    assert!(lent.output == expected, "{name}: the judge's tape");
-    let [check, whole, build, rust] = [0, 1, 2, 3].map(|place| figures(&rounds, place));
-    let plan = ((whole.0 - check.0).max(0.0), (whole.1 - check.1).max(0.0));
-    let pair = |(least, median): (f64, f64)| format!("{least:.3} / {median:.3}");
-    // A plan that is lost in the noise of the check has no ratio.
-    let ratio = if plan.0 == 0.0 { "-".to_string() } else { format!("{:.1}", plan.0 / rust.0) };
-    Some(format!(
-        "| {name} | {} | {} | {} | {} | {} | {} | {} | {ratio} | {:.1} |",
-        bytes.len(),
-        expected.len(),
-        rounds.len(),
-        pair(check),
-        pair(plan),
-        pair(build),
-        pair(rust),
-        whole.0 / (build.0 + rust.0),
-    ))
-}
 
-/// The table in Markdown: five large sheets, then every limit case that is planned.
-pub fn run(most: usize) {
-    println!("Milliseconds, least / median of the rounds. Ratios are of the least times.\n");
-    println!(
-        "| sheet | bytes | tape | rounds | our check | our plan | Rust build | Rust plan | plan / Rust plan | check + plan / build + plan |"
-    );
-    println!("|---|---|---|---|---|---|---|---|---|---|");
-    for large in SHEETS.iter().chain(LARGE) {
-        let name = format!("{} {}", large.name, large.seed);
-        if let Some(row) = row(&name, &make_large(large), most) {
-            println!("{row}");
+    fn note(&mut self, part: usize, time: f64) {
+        self.times[part].push(time);
+    }
+
+    /// Our plan, with the own finder or without: the judge's tape.
+    fn plan(&mut self, part: usize, finder: Option<Vec<u32>>) {
+        self.lent.finder = finder;
+        self.lent.output.fill(0);
+        let (time, answer) = timed(|| Library.plan(black_box(self.bytes), &self.query, self.lent.slices()));
+        assert_eq!((answer.number, answer.length), (0, self.expected.len() as u64), "a plan of the judge's length");
+        assert!(self.lent.output == self.expected, "the judge's tape");
+        self.note(part, time);
+    }
+
+    fn round(&mut self, walking: bool) {
+        let (time, number) = timed(|| check(black_box(self.bytes)).0);
+        assert_eq!(number, 0, "a sound sheet");
+        self.note(0, time);
+        let deeper = Query { depth: MAX_DEPTH + 1, ..self.query.clone() };
+        self.lent.finder = Some(self.own.clone());
+        let (time, answer) = timed(|| Library.plan(black_box(self.bytes), &deeper, self.lent.slices()));
+        assert_eq!(answer.number, 10, "the own finder is taken, the depth is not");
+        self.note(1, time);
+        let mut list = vec![0; self.own.len()];
+        let (time, answer) = timed(|| Library.open(black_box(self.bytes), &mut list));
+        assert!(answer.number == 0 && list == self.own, "the judge's finder");
+        self.note(2, time);
+        self.plan(3, Some(list));
+        if walking {
+            self.plan(4, None);
+        }
+        let (read, _) = timed(|| reader::open(black_box(self.bytes)));
+        let [prepared, planned] = (copies().timed)(&self.sheet, &self.query).map(|time| time.as_secs_f64() * 1e3);
+        self.note(5, read + prepared);
+        self.note(6, planned);
+    }
+
+    fn rounds(&mut self, most: usize) {
+        let start = Instant::now();
+        for round in 0..most {
+            if round > 0 && start.elapsed() > PATIENCE {
+                break;
+            }
+            let walked: f64 = self.times[4].iter().sum();
+            self.round(walked < WALKING_PATIENCE.as_secs_f64() * 1e3);
         }
     }
+
+    /// The least and the median of one measurement.
+    fn figures(&self, part: usize) -> (f64, f64) {
+        let mut times = self.times[part].clone();
+        times.sort_by(f64::total_cmp);
+        (times[0], (times[(times.len() - 1) / 2] + times[times.len() / 2]) / 2.0)
+    }
+}
+
+/// A row of the table, and what the bounds are about: the least times.
+struct Row {
+    name: &'static str,
+    seed: u64,
+    line: String,
+    /// Our whole call with a finder, over the Rust's build and plan.
+    share: f64,
+    /// Our plan alone, without questions and check.
+    plan: f64,
+}
+
+fn row(large: &Large, input: &[u8], most: usize) -> Option<Row> {
+    let mut race = Race::new(input)?;
+    race.rounds(most);
+    let figures: [(f64, f64); 7] = std::array::from_fn(|part| race.figures(part));
+    let [_, asked, _, found, walked, build, rust] = figures;
+    let plan = ((found.0 - asked.0).max(0.0), (found.1 - asked.1).max(0.0));
+    let share = found.0 / (build.0 + rust.0);
+    let mut line = format!(
+        "| {} {} | {} | {} | {} and {} |",
+        large.name,
+        large.seed,
+        race.bytes.len(),
+        race.expected.len(),
+        race.times[3].len(),
+        race.times[4].len()
+    );
+    for (least, median) in figures.into_iter().chain([plan]) {
+        line += &format!(" {least:.3} / {median:.3} |");
+    }
+    // A plan that is lost in the noise of the check has no ratio.
+    let ratio = if plan.0 == 0.0 { "-".to_string() } else { format!("{:.1}", plan.0 / rust.0) };
+    line += &format!(" {ratio} | {share:.2} | {:.1} |", walked.0 / (build.0 + rust.0));
+    Some(Row { name: large.name, seed: large.seed, line, share, plan: plan.0 })
+}
+
+/// The bounds that the finder must keep: what each says, what was measured, and whether it holds.
+fn bounds(rows: &[Row]) -> Vec<(String, bool)> {
+    let named = |row: &&Row, sheet: &Large| (row.name, row.seed) == (sheet.name, sheet.seed);
+    let large = SHEETS.iter().filter(|sheet| ["city", "street"].contains(&sheet.name));
+    let mut bounds: Vec<(String, bool)> = large
+        .filter_map(|sheet| rows.iter().find(|row| named(row, sheet)))
+        .map(|row| {
+            let text = format!("{} {}: with finder at most 0.5 of the Rust's build + plan: {:.2}", row.name, row.seed, row.share);
+            (text, row.share <= 0.5)
+        })
+        .collect();
+    let cities = rows.iter().filter(|row| row.name == "city" && (2_000..=110_000).contains(&row.seed));
+    let plans: Vec<f64> = cities.map(|row| row.plan).collect();
+    if plans.len() > 1 {
+        let (least, most) = plans.iter().fold((f64::MAX, 0.0f64), |(least, most), &plan| (least.min(plan), most.max(plan)));
+        let text = format!("{} cities from 2,000 to 110,000: the plan alone within a factor 2: {least:.3} to {most:.3} ms", plans.len());
+        bounds.push((text, most <= 2.0 * least));
+    }
+    bounds
+}
+
+/// The table in Markdown: five large sheets, then every limit case that is planned, of all those whose name begins so.
+/// Whether every bound holds.
+pub fn run(most: usize, name: &str) -> bool {
+    println!("Milliseconds, least / median of the rounds (with a finder and without). Ratios are of the least times.\n");
+    println!(
+        "| sheet | bytes | tape | rounds | {} | plan | plan / Rust plan | with finder / build + plan | without / build + plan |",
+        PARTS.join(" | ")
+    );
+    println!("|{}", "---|".repeat(PARTS.len() + 8));
+    let mut rows = Vec::new();
+    for large in SHEETS.iter().chain(LARGE).filter(|large| large.name.starts_with(name)) {
+        if let Some(row) = row(large, &make_large(large), most) {
+            println!("{}", row.line);
+            rows.push(row);
+        }
+    }
+    println!();
+    let bounds = bounds(&rows);
+    for (text, holds) in &bounds {
+        println!("{}: {text}", if *holds { "PASS" } else { "FAIL" });
+    }
+    bounds.iter().all(|(_, holds)| *holds)
 }
