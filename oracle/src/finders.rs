@@ -103,6 +103,7 @@ impl Maker<'_> {
     }
 
     /// Every shorter length, and every place off by one to either side.
+    #[cfg(feature = "library")]
     pub fn sweep(&self) -> Vec<(Kind, Vec<u32>)> {
         let shorter = (0..self.own.len()).map(|length| (Kind::Short, self.own[..length].to_vec()));
         let off = (0..self.own.len()).flat_map(|at| {

@@ -1,4 +1,4 @@
-// The finder beside a sheet: its places, the question 13 of planning, and one call of the library that opens a sheet.
+// The finder beside a sheet: its places, number 13 when planning, and one call of the library that opens a sheet.
 // States document 02's Paper 1; rests on no Rattle code.
 
 use super::reader;
@@ -19,7 +19,7 @@ pub fn own(sheet: &[u8]) -> Vec<u32> {
     records.into_iter().map(|(_, offset)| offset).collect()
 }
 
-/// Question 13 of planning: "the finder is short or [...] differs from the sheet's". What stands past the sheet's
+/// Number 13 when planning: "the finder is short or [...] differs from the sheet's". What stands past the sheet's
 /// places does not matter.
 pub fn check(sheet: &[u8], finder: &[u32]) -> Result<(), Refusal> {
     let own = own(sheet);
