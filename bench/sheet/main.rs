@@ -1,5 +1,6 @@
-//! Times the validation of 16 MiB sheets against the sum of their bytes, in one run: each round takes
-//! every measurement once, one after the other, and the least and the middle time of each are printed.
+//! Times the validation of 16 MiB sheets, alone, with the filling of a finder and with the comparison of one, against the
+//! sum of their bytes, in one run: each round takes every measurement once, one after the other, and the least and the
+//! middle time of each are printed.
 
 use std::hint::black_box;
 use std::time::Instant;
@@ -10,6 +11,37 @@ extern crate vector;
 #[allow(improper_ctypes)]
 extern "C" {
     fn sheet_check(s: *const u8, length: usize, offset: *mut usize) -> u32;
+    fn scene_open(
+        s: *const u8,
+        length: usize,
+        finder: *mut u32,
+        finder_length: usize,
+        offset: *mut usize,
+        places: *mut usize,
+    ) -> u32;
+    fn scene_plan_with_finder(
+        s: *const u8,
+        length: usize,
+        finder: *const u32,
+        finder_length: usize,
+        root: u32,
+        depth: u32,
+        min_x: f64,
+        min_y: f64,
+        max_x: f64,
+        max_y: f64,
+        zoom: f64,
+        hidden: *const u32,
+        hidden_length: usize,
+        out: *mut u8,
+        out_length: usize,
+        counts: *mut u64,
+        counts_length: usize,
+        marks: *mut u8,
+        marks_length: usize,
+        offset: *mut usize,
+        tape_length: *mut usize,
+    ) -> u32;
 }
 
 const MOST: usize = 16_777_216;
@@ -20,6 +52,37 @@ fn check(sheet: &[u8]) -> (u32, usize) {
     // SAFETY: a Rattle slice is its address and its length, and the function only reads it.
     let number = unsafe { sheet_check(sheet.as_ptr(), sheet.len(), &mut offset) };
     (number, offset)
+}
+
+/// Fills the finder; the number of the sheet's places.
+fn open(sheet: &[u8], finder: &mut [u32]) -> usize {
+    let (mut offset, mut places) = (usize::MAX, usize::MAX);
+    // SAFETY: slices as above, and the function writes the finder, which is no part of the sheet.
+    let number = unsafe {
+        scene_open(sheet.as_ptr(), sheet.len(), finder.as_mut_ptr(), finder.len(), &mut offset, &mut places)
+    };
+    assert_eq!(number, 0);
+    places
+}
+
+/// Questions 1 to 7 and the comparison of the finder: depth 33 is refused by number 10, and nothing is planned.
+fn compare(sheet: &[u8], finder: &[u32]) -> u32 {
+    let (mut offset, mut length) = (usize::MAX, usize::MAX);
+    let (hidden, mut out, mut counts, mut marks) = ([0u32; 0], [0u8; 0], [0u64; 0], [0u8; 0]);
+    // SAFETY: slices as above; what may be written is lent empty.
+    unsafe {
+        scene_plan_with_finder(
+            sheet.as_ptr(), sheet.len(), finder.as_ptr(), finder.len(), 0, 33, 0.0, 0.0, 0.0, 0.0, 1.0,
+            hidden.as_ptr(), 0, out.as_mut_ptr(), 0, counts.as_mut_ptr(), 0, marks.as_mut_ptr(), 0, &mut offset,
+            &mut length,
+        )
+    }
+}
+
+fn milliseconds<T>(run: impl FnOnce() -> T) -> (f64, T) {
+    let start = Instant::now();
+    let result = black_box(run());
+    (start.elapsed().as_secs_f64() * 1e3, result)
 }
 
 // ---- sheets
@@ -149,39 +212,31 @@ fn main() {
     println!("16,777,216 bytes are sound, 16,777,217 bytes are refused with 1 0, and a last record cut short with 2 {cut}\n");
 
     let rounds: usize = std::env::args().nth(1).map_or(31, |word| word.parse().unwrap());
-    println!("{:<30} {:>9} {:>8}  {:>17} {:>17} {:>17}  {:>6} {:>6}", "milliseconds, least / middle", "bytes", "records", "validation", "sum at -O", "sum with vectors", "/ -O", "/ vec.");
+    println!("{:<30} {:>9} {:>8}  {:>17} {:>17} {:>17} {:>17} {:>17}  {:>6} {:>6}", "milliseconds, least / middle", "bytes", "records", "validation", "opening", "with a finder", "sum at -O", "sum with vectors", "/ -O", "/ vec.");
     for (name, sheet) in &sheets {
-        let answer = check(sheet);
-        assert_eq!(answer, (0, 0), "{name}");
-        let mut times = [vec![], vec![], vec![]];
-        for _ in 0..rounds {
-            let start = Instant::now();
-            black_box(check(black_box(sheet)));
-            times[0].push(start.elapsed());
-            let start = Instant::now();
-            black_box(plain::sum(black_box(sheet)));
-            times[1].push(start.elapsed());
-            let start = Instant::now();
-            black_box(vector::sum(black_box(sheet)));
-            times[2].push(start.elapsed());
-        }
-        let figures: Vec<(f64, f64)> = times
-            .iter_mut()
-            .map(|list| {
-                list.sort();
-                (list[0].as_secs_f64() * 1e3, list[list.len() / 2].as_secs_f64() * 1e3)
-            })
-            .collect();
-        let mut records = 0;
-        let mut at = 0;
-        while at < sheet.len() {
-            at += u32::from_le_bytes(sheet[at..at + 4].try_into().unwrap()) as usize;
-            records += 1;
-        }
-        println!(
-            "{:<30} {:>9} {:>8}  {:>8.2} {:>8.2} {:>8.2} {:>8.2} {:>8.2} {:>8.2}  {:>6.2} {:>6.2}",
-            name, sheet.len(), records, figures[0].0, figures[0].1, figures[1].0, figures[1].1, figures[2].0, figures[2].1,
-            figures[0].0 / figures[1].0, figures[0].0 / figures[2].0
-        );
+        measure(name, sheet, rounds);
     }
+}
+
+/// A line of the table.
+fn measure(name: &str, sheet: &[u8], rounds: usize) {
+    assert_eq!(check(sheet), (0, 0), "{name}");
+    let mut finder = vec![0; sheet.len() / 26];
+    let records = open(sheet, &mut finder);
+    let mut times: [Vec<f64>; 5] = Default::default();
+    for _ in 0..rounds {
+        times[0].push(milliseconds(|| check(black_box(sheet))).0);
+        times[1].push(milliseconds(|| open(black_box(sheet), &mut finder)).0);
+        let (time, number) = milliseconds(|| compare(black_box(sheet), &finder));
+        assert_eq!(number, 10, "{name}: the finder is taken");
+        times[2].push(time);
+        times[3].push(milliseconds(|| plain::sum(black_box(sheet))).0);
+        times[4].push(milliseconds(|| vector::sum(black_box(sheet))).0);
+    }
+    print!("{name:<30} {:>9} {records:>8} ", sheet.len());
+    for list in &mut times {
+        list.sort_by(f64::total_cmp);
+        print!(" {:>8.2} {:>8.2}", list[0], list[list.len() / 2]);
+    }
+    println!("  {:>6.2} {:>6.2}", times[0][0] / times[3][0], times[0][0] / times[4][0]);
 }
