@@ -73,6 +73,12 @@ pub fn list(room: Room, needed: usize, rng: &mut Rng) -> Vec<u32> {
     any_places(rng, length)
 }
 
+/// A finder with so many places more, at random.
+fn with_room(mut finder: Vec<u32>, room: usize, rng: &mut Rng) -> Vec<u32> {
+    finder.extend(any_places(rng, room));
+    finder
+}
+
 /// What finders are made of: a sheet's own places, its bytes, and the places of another sheet.
 pub struct Maker<'a> {
     pub own: &'a [u32],
@@ -85,7 +91,7 @@ impl Maker<'_> {
         let own = self.own.to_vec();
         match kind {
             Kind::Own => own,
-            Kind::Long => self.with_room(own, rng.size(1, 9), rng),
+            Kind::Long => with_room(own, rng.size(1, 9), rng),
             Kind::Short => own[..self.shorter(rng)].to_vec(),
             Kind::Exchanged => self.exchanged(rng, |_, _| true),
             Kind::ExchangedInKind => self.exchanged(rng, |a, b| a == b),
@@ -98,7 +104,7 @@ impl Maker<'_> {
                 let end = self.sheet.len() as u32;
                 rng.pick(&[end, end + 1, end + 4, 1 << 24, u32::MAX, u32::MAX - 5])
             }),
-            Kind::Off => self.changed(rng, |rng, place| if rng.chance(1, 2) { place.wrapping_sub(1) } else { place + 1 }),
+            Kind::Off => self.changed(rng, |rng, place| if rng.chance(1, 2) { place.wrapping_sub(1) } else { place.wrapping_add(1) }),
         }
     }
 
@@ -107,18 +113,13 @@ impl Maker<'_> {
     pub fn sweep(&self) -> Vec<(Kind, Vec<u32>)> {
         let shorter = (0..self.own.len()).map(|length| (Kind::Short, self.own[..length].to_vec()));
         let off = (0..self.own.len()).flat_map(|at| {
-            [self.own[at].wrapping_sub(1), self.own[at] + 1].map(|place| {
+            [self.own[at].wrapping_sub(1), self.own[at].wrapping_add(1)].map(|place| {
                 let mut finder = self.own.to_vec();
                 finder[at] = place;
                 (Kind::Off, finder)
             })
         });
         shorter.chain(off).collect()
-    }
-
-    fn with_room(&self, mut finder: Vec<u32>, room: usize, rng: &mut Rng) -> Vec<u32> {
-        finder.extend(any_places(rng, room));
-        finder
     }
 
     fn shorter(&self, rng: &mut Rng) -> usize {
@@ -154,7 +155,7 @@ impl Maker<'_> {
         let last = self.own.iter().max();
         let finder = self.own.iter().filter(|&place| Some(place) != last).copied().collect();
         let room = rng.size(0, 2);
-        self.with_room(finder, room, rng)
+        with_room(finder, room, rng)
     }
 
     /// The new record's place stands at the end of its kind.

@@ -183,7 +183,7 @@ fn quick(folder: &Path) -> ! {
     let current = usize::from(page == commands::edits_page());
     add("EDITS.md is up to date", (current, 1 - current));
     add("SHA-256, published vectors", sha256::check());
-    add("document 01's readings", readings::run());
+    add("the papers' readings", readings::run());
     add("stored answers", commands::replay(folder));
     let mut coverage = coverage::Coverage::default();
     let (run, _) = commands::fresh_cases(generator::FAMILIES, 1_000_000, 300, &mut coverage);

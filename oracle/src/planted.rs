@@ -15,7 +15,7 @@ use crate::variants::{JUDGE, copies};
 
 /// Steps that a run with a mistake may take; a run that needs more shows the mistake by it.
 const FUEL: u64 = 30_000_000;
-/// So many sheets of the brute force, or calls, may pass before a mistake is seen.
+/// So many sheets of the brute force, or cases that are called, may pass before a mistake is seen.
 const SHEETS: u64 = 30_000;
 const CALLS: u64 = 6_000;
 /// Longer inputs are left out of these calls: they take most of the time, and memory is the same matter at any length.

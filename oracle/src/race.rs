@@ -25,7 +25,7 @@ use crate::variants::copies;
 
 /// No round of a sheet begins after this: the rounds that were made are counted in the table.
 const PATIENCE: Duration = Duration::from_secs(60);
-/// After this a sheet is not planned without a finder again: the walks of a large one take minutes.
+/// After so much planning without a finder a sheet is planned only with one: the walks of a large one take up to minutes.
 const WALKING_PATIENCE: Duration = Duration::from_secs(5);
 
 /// What is measured, in the order of the table.

@@ -1,10 +1,12 @@
-//! Document 01's "Readings at the edges" and its worked example, as its own sentences have them.
-//! The stored answers are the oracle's; these are the paper's, and the oracle must meet them.
+//! Document 01's "Readings at the edges" and its worked example, as its own sentences have them, and a sheet's finder, worked out
+//! by hand from document 02's Paper 1. The stored answers are the oracle's; these are the papers', and the oracle must meet them.
 
-use crate::generator::{edges, encode::single, make_edge};
-use crate::sheet::{Sheet, Source};
+use crate::answer::{Answer, Lent};
+use crate::generator::encode::{batch_bytes, cell_bytes, node_bytes, reference_bytes, single, text_bytes};
+use crate::generator::{edges, make_edge};
+use crate::sheet::{Query, Sheet, Source};
 use crate::stored::answer;
-use crate::variants::copies;
+use crate::variants::{JUDGE, checked, copies};
 
 /// What the printed text must show.
 enum Shows {
@@ -80,10 +82,67 @@ fn remembered() -> bool {
     draw_units(&sheet, &[(0, 3), (1, 2)]) == [13, 8] && draw_units(&sheet, &[(1, 2)]) == [13]
 }
 
+/// Records of 29, 56, 46, 26, 122, 26 and 56 bytes: text, cell, batch, text, reference, node, cell.
+fn sheet_of_seven() -> Vec<u8> {
+    let mut sheet = Sheet::default();
+    let text = sheet.text(1, 0, [10.0, 20.0]);
+    sheet.batch(1, 0, 1, [0.0, 0.0, 30.0, 30.0]);
+    sheet.node(1, 0, &[[1.0, 2.0]]);
+    sheet.reference(single(Source::Text(text), None));
+    sheet.cell(0, None);
+    let (text, cell) = (&sheet.texts[0], cell_bytes(&sheet.cells[0]));
+    [
+        text_bytes(text, b"abc"),
+        cell.clone(),
+        batch_bytes(&sheet.batches[0]),
+        text_bytes(text, b""),
+        reference_bytes(&sheet.references[0]),
+        node_bytes(&sheet.nodes[0]),
+        cell,
+    ]
+    .concat()
+}
+
+/// Batch, both texts, node, reference, both cells.
+const SEVEN: [u32; 7] = [85, 0, 131, 279, 157, 29, 305];
+
+/// What opening gives, in a list that held nines.
+fn opened(sheet: &[u8], places: usize, answer: (u32, u32, u64), list: &[u32]) -> bool {
+    let mut lent = vec![9; places];
+    let (number, offset, length) = answer;
+    (JUDGE.open)(sheet, &mut lent) == (Answer { number, offset, length }) && lent == list
+}
+
+/// The number that a plan with a finder has, on memory enough for two cells at depth 3.
+fn planned(sheet: &[u8], finder: &[u32], depth: u32) -> u32 {
+    let query = Query { depth, zoom: 1.0, ..Query::default() };
+    let mut lent = Lent { finder: Some(finder.to_vec()), output: vec![9; 54], counts: vec![9; 6], marks: vec![9; 10] };
+    (JUDGE.call)(checked, sheet, &query, &mut lent).number
+}
+
+fn finder() -> [(&'static str, bool); 10] {
+    let sheet = sheet_of_seven();
+    let longer = [&SEVEN[..], &[9]].concat();
+    let texts_exchanged = [85, 131, 0, 279, 157, 29, 305];
+    [
+        ("a finder, by kind and then by number", opened(&sheet, 8, (0, 0, 7), &longer)),
+        ("a short list", opened(&sheet, 6, (13, 0, 7), &[0; 6])),
+        ("the finder of an empty sheet", opened(&[], 1, (0, 0, 0), &[9])),
+        ("a refused sheet and a list", opened(&sheet[..360], 7, (2, 305, 0), &[9; 7])),
+        ("a plan with the own finder", planned(&sheet, &SEVEN, 3) == 0),
+        ("a plan with a longer finder", planned(&sheet, &longer, 3) == 0),
+        ("a plan with a short finder", planned(&sheet, &SEVEN[..6], 3) == 13),
+        ("a plan with two texts exchanged", planned(&sheet, &texts_exchanged, 3) == 13),
+        ("10 with the own finder", planned(&sheet, &SEVEN, 33) == 10),
+        ("13 before 10", planned(&sheet, &texts_exchanged, 33) == 13),
+    ]
+}
+
 /// The numbers passed and failed.
 pub fn run() -> (usize, usize) {
     let edges = edges::all();
     let mut results = vec![("remembered counts", remembered())];
+    results.extend(finder());
     for (label, shows) in READINGS {
         let edge = edges.iter().find(|edge| edge.label == *label).expect("a case of that label");
         let text = String::from_utf8(answer(&make_edge(edge)).text).unwrap();
