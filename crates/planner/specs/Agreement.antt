@@ -1,7 +1,6 @@
 -- A CALL WITH A FINDER AND ONE WITHOUT, as a caller has them: document 02, paper 1.
 -- Statements only; rests on the outcomes of both calls.
 use mathlib.Core.Path.{_≡_}
-use mathlib.Core.Bool.{true, false}
 use mathlib.Core.List.{List, _++_}
 use Prim.Native.Nat.{ℕ, _<_}
 use lib.ListN.{length, getD, replicate}

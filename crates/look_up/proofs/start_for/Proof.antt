@@ -1,6 +1,5 @@
 -- `look_up::start_for` meets its contract.
 -- Assumes nothing.
-use native.Mathlib.Omega.{arith}
 use borrow.Author.Needs.{needs}
 use borrow.Author.Tests.{ne-eqb}
 use Rattle.look_up.specs.Places.{startFor}

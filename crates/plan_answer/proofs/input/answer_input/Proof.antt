@@ -1,5 +1,5 @@
 -- `plan_answer::input::answer_input` meets its contract: how far the input could be read decides. Assumes nothing.
-use mathlib.Core.Path.{sym, subst}
+use mathlib.Core.Path.{sym}
 use native.Mathlib.Omega.{arith}
 use lib.Seq.{length-take-le}
 use denote.Ref.{now}
