@@ -1,6 +1,6 @@
 -- What a sheet has at a number is what is read where the look-up finds it: for any look-up, and for the walk.
--- A proof about code that looks a number up cites `item-read` with what the look-up ensures. From `find s 4 n ≡ At at` it gives
--- `sheetOf s .reference n ≡ some (referenceAt s at)`, and from `find s 4 n ≡ Nothing` it gives `sheetOf s .reference n ≡ none`.
+-- From `look 4 n ≡ At at` the law `item-read-by` gives what the sheet by that look-up has at n, `some (referenceAt s at)`, and from
+-- `look 4 n ≡ Nothing` it gives `none`. Proofs about code cite it through `look_up`.
 -- Assumes nothing.
 use mathlib.Core.Path.{_≡_, refl, sym, ap, _∙_}
 use Prim.Native.Nat.{ℕ, _<_}
@@ -54,7 +54,7 @@ same-sheet look other s e =
 -- ---- By the walk, which counts
 
 module _ (kind : Kind) (s : List ℕ) (n : ℕ) where
-  pub item-read : {f : Found} → find s (kindNumber kind) n ≡ f → item kind (sheetOf s) n ≡ read (itemAt kind s) f
+  item-read : {f : Found} → find s (kindNumber kind) n ≡ f → item kind (sheetOf s) n ≡ read (itemAt kind s) f
   unfolding sheetOf
   item-read e = item-read-by (find s) kind s n e
 

@@ -8,7 +8,7 @@ use lib.ListN.{length}
 use Rattle.walk.specs.Offsets.{lengthAt, kindAt, offsetsFrom, offsets}
 use Rattle.walk.specs.Every.{All}
 use Rattle.walk.specs.Find.{ofKindIn}
-use Rattle.walk.proofs.Offsets.{by-order, offsets-more, offsets-end}
+use Rattle.walk.proofs.Offsets.{by-order, offsets-more, offsets-end, offsets-some}
 use Rattle.walk.proofs.Every.{all-step}
 use Rattle.walk.proofs.Finding.{countIn, count-step}
 use Rattle.records.specs.Format.{text, endOf}
@@ -17,7 +17,7 @@ use Rattle.check_record.specs.Record.{Right}
 use Rattle.check_record.proofs.Facts.Lengths.{Sized, shape-sized, shape-known}
 use Rattle.check_sheet.specs.Count.{countsOf}
 use Rattle.look_up.specs.Places.{countFor, startFor}
-use Rattle.finder.specs.Statements.{PlacesAreTheCounts, AsManyPlacesAsRecords, PlacesByTheBytes}
+use Rattle.finder.specs.Statements.{PlacesAreTheCounts, AsManyPlacesAsRecords, OnlyAnEmptySheetHasAnEmptyFinder, PlacesByTheBytes}
 use Rattle.finder.proofs.ByKind.{by-kind, one-kind, finder-length}
 
 module _ (s : List ℕ) where
@@ -68,6 +68,12 @@ places-are-the-counts s = finder-length s
 
 pub as-many-places-as-records : AsManyPlacesAsRecords
 as-many-places-as-records s valid = finder-length s ∙ counted s (offsets s) (valid .records)
+
+pub only-an-empty-sheet-has-an-empty-finder : OnlyAnEmptySheetHasAnEmptyFinder
+only-an-empty-sheet-has-an-empty-finder s valid none =
+    by-order (length s) 0
+    (λ h. omega arith)
+    (λ h. let first = offsets-some s 0 h in absurd (omega (arith, as-many-places-as-records s valid, ap length (first .1))))
 
 pub places-by-the-bytes : PlacesByTheBytes
 places-by-the-bytes s valid =

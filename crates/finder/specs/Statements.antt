@@ -62,6 +62,10 @@ PlacesAreTheCounts = (s : List ℕ) → length (finderOf s) ≡ startFor (counts
 abbrev pub AsManyPlacesAsRecords : Type 0
 AsManyPlacesAsRecords = (s : List ℕ) → Valid s → length (finderOf s) ≡ length (offsets s)
 
+-- "Past that check no look-up by number walks the records": only an empty list walks, and only a sheet without records has an empty finder
+abbrev pub OnlyAnEmptySheetHasAnEmptyFinder : Type 0
+OnlyAnEmptySheetHasAnEmptyFinder = (s : List ℕ) → Valid s → length (finderOf s) ≡ 0 → length s ≡ 0
+
 -- a sheet's bytes say how many places are always enough: no record is shorter than a text without value bytes
 abbrev pub PlacesByTheBytes : Type 0
 PlacesByTheBytes = (s : List ℕ) → Valid s → endOf text * length (finderOf s) ≤ length s

@@ -54,12 +54,12 @@ gridMemberTransform g c r =
 unfoldable pub memberBbox : Grid → ℕ → ℕ → WorldBBox → WorldBBox
 memberBbox g c r b = transformBbox (gridMemberTransform g c r) b
 
--- the four corner members, column outer and row inner
+-- the four corner members up to a column and a row, column outer and row inner
+abbrev pub cornersTo : Grid → ℕ → ℕ → WorldBBox → WorldBBox
+cornersTo g column row b = merge (merge (merge (memberBbox g 0 0 b) (memberBbox g 0 row b)) (memberBbox g column 0 b)) (memberBbox g column row b)
+
 unfoldable pub cornersBbox : Grid → WorldBBox → WorldBBox
-cornersBbox g b =
-    let column = g .columns - 1 in
-    let row = g .rows - 1 in
-    merge (merge (merge (memberBbox g 0 0 b) (memberBbox g 0 row b)) (memberBbox g column 0 b)) (memberBbox g column row b)
+cornersBbox g b = cornersTo g (g .columns - 1) (g .rows - 1) b
 
 unfoldable pub referenceBbox : Grid → WorldBBox → Bounds
 referenceBbox g b = cond (eqb (g .columns) 0 || eqb (g .rows) 0) Absent (boxed (cornersBbox g b))

@@ -2,7 +2,7 @@
 // `reference_bbox` of bevy_scene.rs.
 // Every function is total, and equals a definition of specs/ over the values of IEEE 754, NaN and infinities included.
 ghost use mathlib.Core.Path.{_≡_};
-ghost use Rattle.grid.specs.Grid.{gridCount, offset, rotated, yAxis, gridMemberTransform, memberBbox, referenceBbox};
+ghost use Rattle.grid.specs.Grid.{gridCount, offset, rotated, yAxis, gridMemberTransform, memberBbox, cornersTo, referenceBbox};
 use geometry::bbox::Bounds;
 use geometry::bbox::WorldBBox;
 use geometry::placement::DVec2;
@@ -86,18 +86,26 @@ fn member_bbox(grid: Grid, column: u32, row: u32, source_bbox: WorldBBox) -> Wor
     geometry::bbox::transform_bbox(grid_member_transform(grid, column, row), source_bbox)
 }
 
-// The boxes of the four corner members, merged: column outer, row inner. Without columns or rows there is none.
+// The boxes of the four corner members, merged: column outer, row inner. Of one member all four are the same, and so is their merge.
+fn corners_bbox(grid: Grid, column: u32, row: u32, source_bbox: WorldBBox) -> WorldBBox
+    ensures { λ r. ⌜ r ≡ cornersTo grid column row «source_bbox» ⌝ }
+{
+    let first = member_bbox(grid, 0, 0, source_bbox);
+    if column as u64 + row as u64 == 0 {
+        return first;
+    }
+    let second = first.merge(member_bbox(grid, 0, row, source_bbox));
+    let third = second.merge(member_bbox(grid, column, 0, source_bbox));
+    third.merge(member_bbox(grid, column, row, source_bbox))
+}
+
+// The box of all members. Without columns or rows there is none.
 pub fn reference_bbox(grid: Grid, source_bbox: WorldBBox) -> Bounds
     ensures { λ r. ⌜ r ≡ referenceBbox grid «source_bbox» ⌝ }
 {
     if grid.columns == 0 || grid.rows == 0 {
         return Bounds::Absent;
     }
-    let column = grid.columns - 1;
-    let row = grid.rows - 1;
-    let first = member_bbox(grid, 0, 0, source_bbox);
-    let second = first.merge(member_bbox(grid, 0, row, source_bbox));
-    let third = second.merge(member_bbox(grid, column, 0, source_bbox));
-    let bbox = third.merge(member_bbox(grid, column, row, source_bbox));
+    let bbox = corners_bbox(grid, grid.columns - 1, grid.rows - 1, source_bbox);
     Bounds::Box(bbox.min_x, bbox.min_y, bbox.max_x, bbox.max_y)
 }

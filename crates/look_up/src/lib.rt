@@ -20,7 +20,7 @@ pub fn count_for(c: Counts, kind: u16) -> u32
     }
 }
 
-// The place of a kind's first record: behind all of the kinds before it.
+// The place of a kind's first record: behind all of the kinds before it. Four counts of 32 bits: no sum wraps.
 pub fn start_for(c: Counts, kind: u16) -> usize
     ensures { λ r. ⌜ r ≡ startFor c kind ⌝ }
     ensures { λ r. ⌜ r ≤ 17179869180 ⌝ }

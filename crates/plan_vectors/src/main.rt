@@ -2,7 +2,7 @@
 // input by the functions of the program `plan`, compares the text byte by byte, and prints by the first word of the expected text how
 // many passed and how many failed, and before that the first of these answers as `plan` prints it. A case that fails is named by its
 // number. Before the replay it prints the answers that no stored case has: to too many cells, and where too little is lent.
-// The lent memory is not cleared between inputs: no answer depends on what it held. The finder has 64 places: sheets with more records
+// The lent memory is not cleared between inputs: no answer depends on what it held. The finder has 8 places: sheets with more records
 // are planned by walking, the others with it.
 // A case: length of the input, length of the text (4 bytes each), the input, the text.
 use libc::STDIN_FILENO;
@@ -584,7 +584,7 @@ fn run(
 }
 
 fn lend(cases: &mut [u8]) {
-    let mut finder = [0u32; 64];
+    let mut finder = [0u32; 8];
     let mut hidden = [0u32; 1024];
     let mut tape = [0u8; 262144];
     let mut counts = [0u64; 131072];

@@ -22,12 +22,16 @@ use Rattle.plan_rules.specs.OnTape.{asked}
 use Rattle.plan_rules.specs.Outcome.{Outcome, outcome, soundOutcome, outcomeOf}
 use Rattle.plan_rules.proofs.OutcomeTheorem.{sheet-refused, sheet-sound}
 use Rattle.planner.specs.WithFinder.{turnedAway, checkedWith, outcomeWith}
-use Rattle.planner.specs.Agreement.{OwnFinderAgrees, DifferentIsRefused, ShortIsRefused, AcceptedWithIsAccepted}
+use Rattle.planner.specs.Agreement.{OwnFinderAgrees, RefusedSheetAgrees, DifferentFinderIsRefused, ShortFinderIsRefused, AcceptedWithIsAccepted}
 
 module _ (s finder : List ℕ) (q : Query) (o k m : List ℕ) where
   pub with-refused : (number offset : ℕ) → checkSheet s ≡ checked.Refused number offset → outcomeWith s finder q o k m ≡ outcome (Refused number offset) o k m
   unfolding outcomeWith
   with-refused number offset e = ap (λ (c : Checked). checkedWith c s finder q o k m) e
+
+  -- the same as without a finder
+  refused-agrees : (number offset : ℕ) → checkSheet s ≡ checked.Refused number offset → outcomeWith s finder q o k m ≡ outcomeOf s q o k m
+  refused-agrees number offset e = with-refused number offset e ∙ sym (sheet-refused s q o k m number offset e)
 
   module _ (counts : Counts) (sound : checkSheet s ≡ checked.Sound counts) where
     pub with-own : belongs finder s ≡ true → outcomeWith s finder q o k m ≡ soundOutcome (sheetOf s) (counts .cells) q o k m
@@ -49,7 +53,7 @@ module _ (s finder : List ℕ) (q : Query) (o k m : List ℕ) where
   own-agrees own = by-check (checkSheet s) refl
     where
       by-check : (c : Checked) → checkSheet s ≡ c → outcomeWith s finder q o k m ≡ outcomeOf s q o k m
-      by-check (checked.Refused number offset) e = with-refused number offset e ∙ sym (sheet-refused s q o k m number offset e)
+      by-check (checked.Refused number offset) e = refused-agrees number offset e
       by-check (checked.Sound counts) e = with-own counts e own ∙ sym (sheet-sound s q o k m counts e)
 
 -- and without a finder they show it too
@@ -63,14 +67,17 @@ own-finder-agrees s more q o k m =
     own-agrees s (finderOf s ++ more) q o k m
     (starting-with-the-finder-belongs s (finderOf s ++ more) (ap (λ (l : List ℕ). finderOf s ++ l) (sym (drop-append-seam (finderOf s) more))))
 
-pub different-is-refused : DifferentIsRefused
+pub refused-sheet-agrees : RefusedSheetAgrees
+refused-sheet-agrees s finder q o k m number offset e = refused-agrees s finder q o k m number offset e
+
+pub different-finder-is-refused : DifferentFinderIsRefused
 unfolding turnedAway
-different-is-refused s finder q o k m valid i below differs =
+different-finder-is-refused s finder q o k m valid i below differs =
     with-foreign s finder q o k m _ (valid-sound s valid) (different-is-turned-away s finder i below differs)
 
-pub short-is-refused : ShortIsRefused
+pub short-finder-is-refused : ShortFinderIsRefused
 unfolding turnedAway
-short-is-refused s finder q o k m valid short = with-foreign s finder q o k m _ (valid-sound s valid) (short-is-turned-away s finder short)
+short-finder-is-refused s finder q o k m valid short = with-foreign s finder q o k m _ (valid-sound s valid) (short-is-turned-away s finder short)
 
 -- a call that is not turned away is one without a finder
 not-turned-away : (s finder : List ℕ) (q : Query) (o k m : List ℕ) → outcomeWith s finder q o k m .number ≡ 0 → outcomeWith s finder q o k m ≡ outcomeOf s q o k m
@@ -79,7 +86,7 @@ not-turned-away s finder q o k m accepted = by-check (checkSheet s) refl (belong
   where
     by-check : (c : Checked) → checkSheet s ≡ c → (b : Bool) → belongs finder s ≡ b → outcomeWith s finder q o k m ≡ outcomeOf s q o k m
     by-check c e true own = own-agrees s finder q o k m own
-    by-check (checked.Refused number offset) e false foreign = with-refused s finder q o k m number offset e ∙ sym (sheet-refused s q o k m number offset e)
+    by-check (checked.Refused number offset) e false foreign = refused-agrees s finder q o k m number offset e
     by-check (checked.Sound counts) e false foreign =
         let thirteen : _≡_ {A = ℕ} 13 0 = sym (ap (λ (x : Outcome). x .number) (with-foreign s finder q o k m counts e foreign)) ∙ accepted in
         absurd (omega arith)

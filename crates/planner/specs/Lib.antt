@@ -4,7 +4,7 @@
 --     WithFinder     the outcome of a call with a finder: question 13
 --     LosesNothing   demands 2 and 3 of a call: what its proofs state
 --     Agreement      a call with a finder and one without: what its proofs state
--- Definitions only. Assumes nothing.
+-- Definitions and statements. Assumes nothing.
 pub mod Answered
 pub mod Swept
 pub mod WithFinder

@@ -1,12 +1,13 @@
 -- `open_sheet::clear` meets its contract: what lies below i is zero, what lies above is as it was.
 -- Assumes nothing.
 use mathlib.Core.Path.{_≡_, refl, ap, _∙_}
-use mathlib.Core.List.{List, _++_, append-nil}
+use mathlib.Core.List.{List, _++_}
 use Prim.Native.Nat.{ℕ, _-_, _≤_}
 use native.Mathlib.Omega.{arith}
-use lib.ListN.{length, length-set, replicate, drop, set, drop-of-length-le}
+use lib.ListN.{length, length-set, replicate, drop, set}
 use borrow.Author.Fill.{fill-none, fill-more}
 use borrow.Author.Needs.{needs}
+use Rattle.fields.proofs.Zeroed.{all-zero}
 use Rattle.open_sheet.proofs.clear.Statement.{statement}
 use Rattle.open_sheet.proofs.clear.Tie as tie
 
@@ -23,15 +24,6 @@ loop-again : tie.Need-loop-again Inv-loop μ-loop
 loop-again c =
     let here = c .before .loop in
     (omega arith, simp length-set (here .inv .1), ap (λ (l : List ℕ). set l (here .i) 0) (here .inv .2) ∙ fill-more (here .i) 0 _ (omega arith))
-
--- zeros up to i, and i is the length
-all-zero : (d x : List ℕ) (i : ℕ) → length d ≤ i → i ≤ length d → x ≡ replicate i 0 ++ drop i d → x ≡ replicate (length d) 0
-all-zero d x i h g e =
-    let z : i ≡ length d = omega arith in
-    e
-    ∙ ap (λ (l : List ℕ). replicate i 0 ++ l) (drop-of-length-le d h)
-    ∙ append-nil (replicate i 0)
-    ∙ ap (λ (n : ℕ). replicate n 0) z
 
 returns : tie.Need-returns Inv-loop μ-loop
 returns c = let here = c .before .loop in all-zero _ _ (here .i) (omega arith) (here .inv .0) (here .inv .2)

@@ -9,7 +9,7 @@ use Rattle.plan_vectors.proofs.lend.Statement.{statement}
 use Rattle.plan_vectors.proofs.lend.Tie as tie
 
 finder : tie.Need-slice-aggregate-run
-finder c = sym (length-replicate {0} {A = ℕ} 64 0)
+finder c = sym (length-replicate {0} {A = ℕ} 8 0)
 
 hidden : tie.Need-slice-aggregate-run-2
 hidden c = sym (length-replicate {0} {A = ℕ} 1024 0)

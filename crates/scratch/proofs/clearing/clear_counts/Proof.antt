@@ -7,7 +7,7 @@ use native.Mathlib.Omega.{arith}
 use lib.ListN.{length, length-set, replicate, drop, set}
 use borrow.Author.Fill.{fill-none, fill-more}
 use borrow.Author.Needs.{needs}
-use Rattle.scratch.proofs.Zeroed.{all-zero}
+use Rattle.fields.proofs.Zeroed.{all-zero}
 use Rattle.scratch.proofs.clearing.clear_counts.Statement.{statement}
 use Rattle.scratch.proofs.clearing.clear_counts.Tie as tie
 

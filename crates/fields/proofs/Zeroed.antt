@@ -1,4 +1,4 @@
--- The end of a loop that zeroes lent memory, for both widths.
+-- The end of a loop that zeroes lent memory, for any width.
 -- Assumes nothing.
 use mathlib.Core.Path.{_≡_, ap, _∙_}
 use mathlib.Core.List.{List, _++_, append-nil}
