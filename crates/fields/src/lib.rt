@@ -95,6 +95,13 @@ pub fn u64_at(s: &[u8], at: usize) -> u64
 }
 
 // Every NaN pattern is read as the one NaN.
+pub fn f64_within(s: &[u8], at: usize) -> f64
+    requires { ⌜ at + 8 ≤ length (now s) ⌝ }
+    ensures { λ r. ⌜ r ≡ f64At (now (s .entry)) at ⌝ }
+{
+    floats::pattern::f64_from_bits(u64_within(s, at))
+}
+
 pub fn f64_at(s: &[u8], at: usize) -> f64
     ensures { λ r. ⌜ r ≡ f64At (now (s .entry)) at ⌝ }
 {

@@ -20,6 +20,7 @@ use crate::format::NODE_END;
 use crate::format::NODE_LAYER;
 use crate::format::NODE_TYPE;
 use crate::format::POINT;
+use crate::format::REFERENCE_END;
 use crate::format::REFERENCE_FLAGS;
 use crate::format::REFERENCE_ORIGIN;
 use crate::format::ROWS;
@@ -34,7 +35,9 @@ use crate::format::TEXT_LAYER;
 use crate::format::TEXT_ORIGIN;
 use crate::parts::bit;
 use crate::parts::bounds_at;
+use crate::parts::bounds_within;
 use crate::parts::dvec2_at;
+use crate::parts::dvec2_within;
 use crate::parts::from;
 use crate::parts::source_of;
 use crate::parts::world_bbox_at;
@@ -93,6 +96,23 @@ pub fn node_point_at(s: &[u8], at: usize, i: u32) -> DVec2
     dvec2_at(body, NODE_END + POINT * (i as usize))
 }
 
+fn grid_within(s: &[u8], at: usize) -> Grid
+    requires { ⌜ at + endOf reference ≤ length (now s) ⌝ }
+    ensures { λ r. ⌜ r ≡ gridAt (now (s .entry)) at ⌝ }
+{
+    Grid {
+        columns: fields::u16_within(s, at + COLUMNS) as u32,
+        rows: fields::u16_within(s, at + ROWS) as u32,
+        x_reflection: bit(fields::u16_within(s, at + REFERENCE_FLAGS), 0),
+        origin: dvec2_within(s, at + REFERENCE_ORIGIN),
+        spacing_x: dvec2_within(s, at + SPACING_X),
+        spacing_y: dvec2_within(s, at + SPACING_Y),
+        magnification: fields::f64_within(s, at + MAGNIFICATION),
+        cos: fields::f64_within(s, at + COS),
+        sin: fields::f64_within(s, at + SIN),
+    }
+}
+
 fn grid_at(s: &[u8], at: usize) -> Grid
     ensures { λ r. ⌜ r ≡ gridAt (now (s .entry)) at ⌝ }
 {
@@ -110,7 +130,34 @@ fn grid_at(s: &[u8], at: usize) -> Grid
     }
 }
 
-pub fn reference_at(s: &[u8], at: usize) -> PreparedReference
+pub fn source_within(s: &[u8], at: usize) -> SourceField
+    requires { ⌜ at + endOf reference ≤ length (now s) ⌝ }
+    ensures { λ r. ⌜ r ≡ sourceFieldAt (now (s .entry)) at ⌝ }
+{
+    SourceField {
+        kind: fields::u16_within(s, at + SOURCE_KIND),
+        number: fields::u32_within(s, at + SOURCE_NUMBER),
+    }
+}
+
+fn reference_within(s: &[u8], at: usize) -> PreparedReference
+    requires { ⌜ at + endOf reference ≤ length (now s) ⌝ }
+    ensures { λ r. ⌜ r ≡ referenceAt (now (s .entry)) at ⌝ }
+{
+    let source = source_within(s, at);
+    PreparedReference {
+        grid: grid_within(s, at),
+        source: source_of(source.kind, source.number),
+        source_bbox: bounds_within(
+            s,
+            at + SOURCE_BOX,
+            bit(fields::u16_within(s, at + REFERENCE_FLAGS), 1),
+        ),
+    }
+}
+
+// A reference whose record may run past the end, field by field.
+fn reference_cut_short(s: &[u8], at: usize) -> PreparedReference
     ensures { λ r. ⌜ r ≡ referenceAt (now (s .entry)) at ⌝ }
 {
     let body = from(s, at);
@@ -128,12 +175,14 @@ pub fn reference_at(s: &[u8], at: usize) -> PreparedReference
     }
 }
 
-pub fn source_within(s: &[u8], at: usize) -> SourceField
-    requires { ⌜ at + endOf reference ≤ length (now s) ⌝ }
-    ensures { λ r. ⌜ r ≡ sourceFieldAt (now (s .entry)) at ⌝ }
+// One test that the whole record lies within the bytes spares one at each field.
+pub fn reference_at(s: &[u8], at: usize) -> PreparedReference
+    ensures { λ r. ⌜ r ≡ referenceAt (now (s .entry)) at ⌝ }
 {
-    SourceField {
-        kind: fields::u16_within(s, at + SOURCE_KIND),
-        number: fields::u32_within(s, at + SOURCE_NUMBER),
+    if at < s.len() {
+        if REFERENCE_END <= s.len() - at {
+            return reference_within(s, at);
+        }
     }
+    reference_cut_short(s, at)
 }

@@ -1,10 +1,12 @@
 // What the body of a record is made of: points, boxes, flags and sources.
 ghost use mathlib.Core.Path.{_≡_};
-ghost use Prim.Native.Nat.{_<_};
-ghost use lib.ListN.{drop};
+ghost use Prim.Native.Nat.{_+_, _*_, _<_, _≤_};
+ghost use lib.ListN.{length, drop};
+ghost use Rattle.records.specs.Format.{f};
 ghost use Rattle.records.specs.Records.{dvec2At, worldBBoxAt, boundsAt, bit, sourceOf};
 ghost use Rattle.records.specs.Sources.{label};
 use crate::PreparedSource;
+use crate::format::FLOAT;
 use geometry::bbox::Bounds;
 use geometry::bbox::WorldBBox;
 use geometry::placement::DVec2;
@@ -18,6 +20,16 @@ pub fn from(s: &[u8], at: usize) -> &[u8]
     }
     let end = s.len();
     &s[end..]
+}
+
+pub fn dvec2_within(s: &[u8], at: usize) -> DVec2
+    requires { ⌜ at + 2 * f ≤ length (now s) ⌝ }
+    ensures { λ r. ⌜ r ≡ dvec2At (now (s .entry)) at ⌝ }
+{
+    DVec2 {
+        x: fields::f64_within(s, at),
+        y: fields::f64_within(s, at + FLOAT),
+    }
 }
 
 pub fn dvec2_at(s: &[u8], at: usize) -> DVec2
@@ -42,6 +54,21 @@ pub fn world_bbox_at(s: &[u8], at: usize) -> WorldBBox
 }
 
 // The box at an offset, if it is present.
+pub fn bounds_within(s: &[u8], at: usize, present: bool) -> Bounds
+    requires { ⌜ at + 4 * f ≤ length (now s) ⌝ }
+    ensures { λ r. ⌜ r ≡ boundsAt (now (s .entry)) at present ⌝ }
+{
+    if present {
+        return Bounds::Box(
+            fields::f64_within(s, at),
+            fields::f64_within(s, at + FLOAT),
+            fields::f64_within(s, at + 2 * FLOAT),
+            fields::f64_within(s, at + 3 * FLOAT),
+        );
+    }
+    Bounds::Absent
+}
+
 pub fn bounds_at(s: &[u8], at: usize, present: bool) -> Bounds
     ensures { λ r. ⌜ r ≡ boundsAt (now (s .entry)) at present ⌝ }
 {

@@ -1,4 +1,4 @@
--- `records::items::reference_at` meets its contract. Assumes nothing.
+-- `records::items::reference_cut_short` meets its contract. Assumes nothing.
 use Prim.Native.Nat.{ℕ, _+_}
 use mathlib.Core.Path.{ap, ap₂, _∙_}
 use mathlib.Core.Bool.{Bool}
@@ -6,8 +6,8 @@ use denote.Ref.{now}
 use Rattle.records.specs.Records.{bit, boundsAt, sourceOf, referenceAt}
 use Rattle.records.proofs.Body.{uint-in, bounds-in}
 use borrow.Author.Needs.{needs}
-use Rattle.records.proofs.items.reference_at.Statement.{statement}
-use Rattle.records.proofs.items.reference_at.Tie as tie
+use Rattle.records.proofs.items.reference_cut_short.Statement.{statement}
+use Rattle.records.proofs.items.reference_cut_short.Tie as tie
 
 returns : tie.Need-returns
 unfolding referenceAt
@@ -21,8 +21,8 @@ returns c =
       «source_bbox» = (c .bounds-at .ensures ∙ box _ _ ∙ ap (λ (b : Bool). boundsAt (now (a .s)) (a .at + _) b) (c .before .bit .ensures ∙ ap (λ (n : ℕ). bit n 1) (c .before .before .u16-at2 .ensures ∙ uint _ _))) i;
     }
 
-pub reference-at-spec : {M : Type 1} → statement M
-reference-at-spec =
+pub reference-cut-short-spec : {M : Type 1} → statement M
+reference-cut-short-spec =
     tie.close
     (tie.spec
     (λ c κs. search needs)
