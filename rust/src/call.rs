@@ -107,7 +107,8 @@ fn debug_assert_float_environment() {
 pub(crate) fn call_open(sheet: &[u8], finder: &mut [u32]) -> Result<usize, Refusal> {
     debug_assert_float_environment();
     let (mut offset, mut places) = (0, 0);
-    // SAFETY: as below.
+    // SAFETY: each pointer with its length is one of Rust's slices, so it is not null, is aligned, and what is written
+    // overlaps nothing. The function keeps no pointer and touches nothing else.
     let number = unsafe {
         scene_open(
             sheet.as_ptr(),
@@ -130,11 +131,10 @@ pub(crate) fn call(
 ) -> Result<usize, Refusal> {
     debug_assert_float_environment();
     let (mut offset, mut length) = (0, 0);
-    // Both functions differ in the slices that come first.
+    // The two functions differ only in the slices that come first.
     macro_rules! number {
         ($function:ident, $($slice:ident),+) => {
-            // SAFETY: each pointer with its length is one of Rust's slices, so it is not null, is aligned, and what is
-            // written overlaps nothing. The function keeps no pointer and touches nothing else.
+            // SAFETY: as above.
             unsafe {
                 $function(
                     $($slice.as_ptr(), $slice.len(),)+
