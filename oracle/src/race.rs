@@ -23,7 +23,7 @@ use crate::sheet::{Query, Sheet};
 use crate::timing::SHEETS;
 use crate::variants::copies;
 
-/// No round of a sheet begins after this: the rounds that were made are counted in the table.
+/// No round of a sheet begins after this, without the walks: the rounds that were made are counted in the table.
 const PATIENCE: Duration = Duration::from_secs(60);
 /// After so much planning without a finder a sheet is planned only with one: the walks of a large one take up to minutes.
 const WALKING_PATIENCE: Duration = Duration::from_secs(5);
@@ -98,14 +98,15 @@ impl<'a> Race<'a> {
         self.note(6, planned);
     }
 
+    /// The walks are not counted against the patience: else a slow one would leave a single round with a finder.
     fn rounds(&mut self, most: usize) {
         let start = Instant::now();
         for round in 0..most {
-            if round > 0 && start.elapsed() > PATIENCE {
+            let walked = Duration::from_secs_f64(self.times[4].iter().sum::<f64>() / 1e3);
+            if round > 0 && start.elapsed().saturating_sub(walked) > PATIENCE {
                 break;
             }
-            let walked: f64 = self.times[4].iter().sum();
-            self.round(walked < WALKING_PATIENCE.as_secs_f64() * 1e3);
+            self.round(walked < WALKING_PATIENCE);
         }
     }
 
