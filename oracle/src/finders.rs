@@ -27,6 +27,8 @@ pub enum Kind {
     Exchanged,
     ExchangedInKind,
     ExchangedAcross,
+    /// The own places in any order.
+    Shuffled,
     /// Another sheet's.
     Foreign,
     /// That of the sheet without its last record.
@@ -41,13 +43,14 @@ pub enum Kind {
     Off,
 }
 
-pub const KINDS: [Kind; 12] = [
+pub const KINDS: [Kind; 13] = [
     Kind::Own,
     Kind::Long,
     Kind::Short,
     Kind::Exchanged,
     Kind::ExchangedInKind,
     Kind::ExchangedAcross,
+    Kind::Shuffled,
     Kind::Foreign,
     Kind::Cut,
     Kind::Grown,
@@ -96,6 +99,7 @@ impl Maker<'_> {
             Kind::Exchanged => self.exchanged(rng, |_, _| true),
             Kind::ExchangedInKind => self.exchanged(rng, |a, b| a == b),
             Kind::ExchangedAcross => self.exchanged(rng, |a, b| a != b),
+            Kind::Shuffled => self.shuffled(rng),
             Kind::Foreign => self.foreign.to_vec(),
             Kind::Cut => self.cut(rng),
             Kind::Grown => self.grown(rng),
@@ -147,6 +151,15 @@ impl Maker<'_> {
             .find(|&at| at != first && fits(self.kind_at(finder[first]), self.kind_at(finder[at])));
         if let Some(other) = other {
             finder.swap(first, other);
+        }
+        finder
+    }
+
+    /// Every order is as likely.
+    fn shuffled(&self, rng: &mut Rng) -> Vec<u32> {
+        let mut finder = self.own.to_vec();
+        for last in (1..finder.len()).rev() {
+            finder.swap(rng.size(0, last), last);
         }
         finder
     }
