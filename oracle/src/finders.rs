@@ -35,7 +35,7 @@ pub enum Kind {
     Cut,
     /// That of the sheet with one record more.
     Grown,
-    /// Any places, or none but zeros.
+    /// Any places, or all zero.
     Random,
     /// A place at the sheet's end or past it.
     Past,
