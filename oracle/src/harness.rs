@@ -4,7 +4,6 @@
 //! the Rattle planner (`library.rs`), which `differential.rs` runs over every family.
 
 use std::collections::BTreeMap;
-use std::mem::replace;
 
 use crate::answer::{Answer, Judge, Lent, PlanFn};
 use crate::finders::{KINDS, Maker, ROOMS, any_places, list};
@@ -148,7 +147,7 @@ fn lent_unlike(own: &Lent, other: &Lent) -> Option<String> {
 struct Run<'a> {
     subject: &'a mut dyn Subject,
     tally: Tally,
-    /// The places of the last sheet that was accepted.
+    /// The finder of the last sheet that was accepted.
     foreign: Vec<u32>,
 }
 
@@ -160,11 +159,14 @@ impl Run<'_> {
         let mut rng = Rng::new(seed ^ 0x1e47);
         let stated = stated(sheet, &query);
         self.plan(&case, sheet, &query, &stated, None, &mut rng);
-        let own = stated.own.clone().unwrap_or_else(|| any_places(&mut rng, 5));
-        self.open(&case, sheet, &stated, list(rng.pick(&ROOMS), own.len(), &mut rng));
-        let foreign = replace(&mut self.foreign, own.clone());
-        let finder = Maker { own: &own, sheet, foreign: &foreign }.make(rng.pick(&KINDS), &mut rng);
+        // A refused sheet has no finder of its own.
+        let places = stated.own.clone().unwrap_or_else(|| any_places(&mut rng, 5));
+        self.open(&case, sheet, &stated, list(rng.pick(&ROOMS), places.len(), &mut rng));
+        let finder = Maker { own: &places, sheet, foreign: &self.foreign }.make(rng.pick(&KINDS), &mut rng);
         self.plan(&case, sheet, &query, &stated, Some(finder), &mut rng);
+        if let Some(own) = stated.own {
+            self.foreign = own;
+        }
     }
 
     fn plan(&mut self, case: &str, sheet: &[u8], query: &Query, stated: &Stated, finder: Option<Vec<u32>>, rng: &mut Rng) {
