@@ -28,6 +28,11 @@ const PATIENCE: Duration = Duration::from_secs(60);
 /// After so much planning without a finder a sheet is planned only with one: the walks of a large one take up to minutes.
 const WALKING_PATIENCE: Duration = Duration::from_secs(5);
 
+/// The sheets of the bound of one half.
+const HALVED: [(&str, u64); 4] = [("city", 20_000), ("city", 110_000), ("street", 40_000), ("street", 130_000)];
+/// The cities that the bound on the plan alone must have.
+const CITIES: [u64; 3] = [2_000, 20_000, 110_000];
+
 /// What is measured, in the order of the table.
 const PARTS: [&str; 7] =
     ["questions", "asked", "opening", "with finder", "without", "Rust build", "Rust plan"];
@@ -154,29 +159,36 @@ fn row(large: &Large, input: &[u8], most: usize) -> Option<Row> {
     Some(Row { name: large.name, seed: large.seed, line, share, plan: plan.0 })
 }
 
-/// The bounds that the finder must keep: what each says, what was measured, and whether it holds.
-fn bounds(rows: &[Row]) -> Vec<(String, bool)> {
-    let named = |row: &&Row, sheet: &Large| (row.name, row.seed) == (sheet.name, sheet.seed);
-    let large = SHEETS.iter().filter(|sheet| ["city", "street"].contains(&sheet.name));
-    let mut bounds: Vec<(String, bool)> = large
-        .filter_map(|sheet| rows.iter().find(|row| named(row, sheet)))
-        .map(|row| {
-            let text = format!("{} {}: with finder at most 0.5 of the Rust's build + plan: {:.2}", row.name, row.seed, row.share);
-            (text, row.share <= 0.5)
-        })
-        .collect();
-    let cities = rows.iter().filter(|row| row.name == "city" && (2_000..=110_000).contains(&row.seed));
-    let plans: Vec<f64> = cities.map(|row| row.plan).collect();
-    if plans.len() > 1 {
-        let (least, most) = plans.iter().fold((f64::MAX, 0.0f64), |(least, most), &plan| (least.min(plan), most.max(plan)));
-        let text = format!("{} cities from 2,000 to 110,000: the plan alone within a factor 2: {least:.3} to {most:.3} ms", plans.len());
-        bounds.push((text, most <= 2.0 * least));
+/// The bounds that the finder must keep, of those sheets whose name begins so: what each says, what was measured, and
+/// whether it holds. A bound that lacks a row does not hold: a sheet may have been renamed, or be refused.
+fn bounds(rows: &[Row], name: &str) -> Vec<(String, bool)> {
+    let mut bounds = Vec::new();
+    for (sheet, seed) in HALVED.into_iter().filter(|(sheet, _)| sheet.starts_with(name)) {
+        let share = rows.iter().find(|row| (row.name, row.seed) == (sheet, seed)).map(|row| row.share);
+        let measured = share.map_or("no row".to_string(), |share| format!("{share:.2}"));
+        let text = format!("{sheet} {seed}: with finder at most 0.5 of the Rust's build + plan: {measured}");
+        bounds.push((text, share.is_some_and(|share| share <= 0.5)));
+    }
+    if "city".starts_with(name) {
+        bounds.push(cities_bound(rows));
     }
     bounds
 }
 
+/// Every city in the range counts, and `CITIES` must be among them.
+fn cities_bound(rows: &[Row]) -> (String, bool) {
+    let cities: Vec<&Row> = rows.iter().filter(|row| row.name == "city" && (2_000..=110_000).contains(&row.seed)).collect();
+    let absent = CITIES.iter().filter(|&&seed| cities.iter().all(|row| row.seed != seed));
+    let absent: Vec<String> = absent.map(u64::to_string).collect();
+    let plans = cities.iter().map(|row| row.plan);
+    let (least, most) = plans.fold((f64::MAX, 0.0f64), |(least, most), plan| (least.min(plan), most.max(plan)));
+    let measured = if absent.is_empty() { format!("{least:.3} to {most:.3} ms") } else { format!("no row of {}", absent.join(", ")) };
+    let text = format!("{} cities from 2,000 to 110,000: the plan alone within a factor 2: {measured}", cities.len());
+    (text, absent.is_empty() && most <= 2.0 * least)
+}
+
 /// The table in Markdown: five large sheets, then every limit case that is planned, of all those whose name begins so.
-/// Whether every bound holds.
+/// Whether there is a row, and every bound holds.
 pub fn run(most: usize, name: &str) -> bool {
     println!("Milliseconds, least / median of the rounds (with a finder and without). Ratios are of the least times.\n");
     println!(
@@ -192,7 +204,11 @@ pub fn run(most: usize, name: &str) -> bool {
         }
     }
     println!();
-    let bounds = bounds(&rows);
+    if rows.is_empty() {
+        println!("FAIL: no row: no sheet's name begins with {name:?}, or each is refused");
+        return false;
+    }
+    let bounds = bounds(&rows, name);
     for (text, holds) in &bounds {
         println!("{}: {text}", if *holds { "PASS" } else { "FAIL" });
     }
