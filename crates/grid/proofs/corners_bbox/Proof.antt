@@ -1,7 +1,6 @@
 -- `grid::corners_bbox` meets its contract: by the corner members one after the other, or by the one that there is.
 -- Assumes nothing.
 use mathlib.Core.Path.{_≡_, sym, ap₂, _∙_}
-use Prim.Native.Nat.{ℕ}
 use native.Mathlib.Omega.{arith}
 use Rattle.geometry.specs.Bbox.{merge}
 use Rattle.grid.specs.Grid.{cornersTo}

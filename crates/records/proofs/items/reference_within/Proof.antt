@@ -1,6 +1,6 @@
 -- `records::items::reference_within` meets its contract. Assumes nothing.
 use Prim.Native.Nat.{ℕ, _+_}
-use mathlib.Core.Path.{ap, ap₂, _∙_}
+use mathlib.Core.Path.{ap, _∙_}
 use mathlib.Core.Bool.{Bool}
 use denote.Ref.{now}
 use Rattle.records.specs.Records.{bit, boundsAt, sourceOf, referenceAt}
