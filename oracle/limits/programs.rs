@@ -23,10 +23,15 @@ fn text(value: usize) -> Vec<u8> {
     [head(26 + value, 2), vec![1, 0, 0, 0], position, vec![0; value]].concat()
 }
 
-/// A sheet with a text, and a cell without a box that lists it.
-fn sheet() -> Vec<u8> {
+/// So many texts, and a cell without a box that lists the last of them.
+fn sheet_of_texts(count: usize) -> Vec<u8> {
     let counts = [0u16, 1, 0, 0].map(u16::to_le_bytes).concat();
-    [text(0), head(60, 5), vec![0; 42], counts, vec![0; 4]].concat()
+    let last = (count as u32 - 1).to_le_bytes();
+    [text(0).repeat(count), head(60, 5), vec![0; 42], counts, last.to_vec()].concat()
+}
+
+fn sheet() -> Vec<u8> {
+    sheet_of_texts(1)
 }
 
 /// An input of so many bytes: one text that is listed, and texts that are not.
@@ -61,12 +66,15 @@ impl Program {
     }
 }
 
-/// At the limits of the buffers for the input and the hidden layers.
+/// At the limits of the buffers for the input, the finder and the hidden layers. The input's limit is met before the finder's.
 fn at_buffers() -> Vec<Program> {
     let layers = |count: usize| [query(count), sheet()].concat();
+    let listed = WORKED.replace("text 0", "text 50406");
     let cases = [
         ("an input of 1,310,720 bytes", of_length(1_310_720), WORKED),
         ("an input of 1,310,721 bytes", of_length(1_310_721), "too long\n"),
+        ("50,410 texts and no cell", [query(0), text(0).repeat(50_410)].concat(), "totals 0 0 0 0 0 0\n"),
+        ("50,407 texts and a cell that lists the last", [query(0), sheet_of_texts(50_407)].concat(), &listed),
         ("16,384 hidden layers", layers(16_384), WORKED),
         ("16,385 hidden layers", layers(16_385), "too long\n"),
     ];

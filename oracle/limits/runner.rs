@@ -9,6 +9,7 @@
 //!
 //! A fault in a case (an overflow, a place outside of a slice) is seen. What takes long comes last.
 
+use std::collections::BTreeSet;
 use std::fs;
 use std::panic::{AssertUnwindSafe, catch_unwind};
 use std::sync::atomic::Ordering::Relaxed;
@@ -20,8 +21,13 @@ const HIDDEN: usize = 1 << 20;
 const COUNTS: usize = 131_072;
 const MARKS: usize = 139_264;
 const TEXT: usize = 65_536;
+const FINDER: usize = 645_277;
+
+/// The finder that `plan_vectors` lends, which is enough for its cases.
+const FINDER_OF_VECTORS: usize = 64;
 
 struct Room {
+    finder: Vec<u32>,
     hidden: Vec<u32>,
     tape: Vec<u8>,
     counts: Vec<u64>,
@@ -30,14 +36,15 @@ struct Room {
 }
 
 impl Room {
-    fn new() -> Room {
-        Room { hidden: vec![0; HIDDEN], tape: vec![0; TAPE], counts: vec![0; COUNTS], marks: vec![0; MARKS], text: vec![0; TEXT] }
+    fn new(places: usize) -> Room {
+        let (finder, hidden) = (vec![0; places], vec![0; HIDDEN]);
+        Room { finder, hidden, tape: vec![0; TAPE], counts: vec![0; COUNTS], marks: vec![0; MARKS], text: vec![0; TEXT] }
     }
 
     /// The text that `plan` prints for an input, with room enough.
     fn text_of(&mut self, input: &[u8]) -> Vec<u8> {
-        let Room { hidden, tape, counts, marks, text } = self;
-        let printed = plan_answer::answer(input, hidden, tape, counts, marks);
+        let Room { finder, hidden, tape, counts, marks, text } = self;
+        let printed = plan_answer::answer(input, finder, hidden, tape, counts, marks);
         system::printed(Vec::new(), NO_FAULTS, NO_FAULTS, || {
             plan_answer::print_answer(true, text, printed, tape);
         })
@@ -72,7 +79,8 @@ fn small_cases(repository: &str) -> Vec<Small> {
     }).collect()
 }
 
-fn run_small(cases: &[Small], room: &mut Room) -> Option<String> {
+fn run_small(cases: &[Small]) -> Option<String> {
+    let mut room = Room::new(FINDER_OF_VECTORS);
     let seen = cases.iter().find(|case| sees(|| room.text_of(&case.input) == case.text));
     seen.map(|case| case.label.clone())
 }
@@ -141,29 +149,80 @@ fn run_floats(repository: &str) -> Option<String> {
     None
 }
 
-/// What a call of the library answers and leaves: number, offset, length, and a sum over every lent byte.
+/// What a call of the library answers and leaves: number, offset, length, and a sum over every lent place.
 type Left = (u32, usize, usize, u64);
 
+fn sum_of(places: impl Iterator<Item = u64>) -> u64 {
+    places.fold(0, |sum, place| sum.wrapping_mul(0x100_0000_01b3) ^ place)
+}
+
+#[derive(Clone, Copy)]
 struct Lent {
     out: usize,
     counts: usize,
     marks: usize,
 }
 
-/// Calls the library with a query and a sheet on memory that holds sevens.
-fn call(input: &[u8], lent: &Lent) -> Left {
+/// A call of the library on memory that holds sevens: a sheet is opened, or planned with a finder or without.
+enum Call {
+    Open(usize), // in a list of so many places
+    Plan(Lent),
+    With(Finder, Lent),
+}
+
+/// A lent finder, and how it differs from the sheet's own.
+struct Finder {
+    name: String,
+    list: Vec<u32>,
+}
+
+fn sheet_of(input: &[u8]) -> &[u8] {
+    &input[u32_of(input, 0)..]
+}
+
+/// Opens a sheet in the list, and says what is left of it.
+fn call_open(sheet: &[u8], finder: &mut [u32]) -> Left {
+    let (mut offset, mut places) = (7, 7);
+    let number = planner_c::open::scene_open(sheet, finder, &mut offset, &mut places);
+    (number, offset, places, sum_of(finder.iter().map(|place| u64::from(*place))))
+}
+
+fn call_plan(input: &[u8], finder: Option<&[u32]>, lent: Lent) -> Left {
     let float = |at: usize| f64::from_bits(u64::from_le_bytes(input[at..at + 8].try_into().unwrap()));
-    let sheet = u32_of(input, 0);
-    let hidden: Vec<u32> = (54..sheet).step_by(4).map(|at| u32_of(input, at) as u32).collect();
+    let (sheet, root, depth) = (sheet_of(input), u32_of(input, 6) as u32, u32_of(input, 10) as u32);
+    let (min_x, min_y, max_x, max_y, zoom) = (float(14), float(22), float(30), float(38), float(46));
+    let hidden: Vec<u32> = (54..u32_of(input, 0)).step_by(4).map(|at| u32_of(input, at) as u32).collect();
     let (mut out, mut counts, mut marks) = (vec![7u8; lent.out], vec![7u64; lent.counts], vec![7u8; lent.marks]);
-    let (mut offset, mut length) = (0, 0);
-    let number = planner_c::scene_plan(
-        &input[sheet..], u32_of(input, 6) as u32, u32_of(input, 10) as u32, float(14), float(22), float(30), float(38), float(46),
-        &hidden, &mut out, &mut counts, &mut marks, &mut offset, &mut length,
-    );
-    let bytes = out.iter().chain(&marks).map(|byte| u64::from(*byte)).chain(counts);
-    let sum = bytes.fold(0u64, |sum, byte| sum.wrapping_mul(0x100_0000_01b3) ^ byte);
-    (number, offset, length, sum)
+    let (mut offset, mut length) = (7, 7);
+    let number = match finder {
+        None => planner_c::plans::scene_plan(
+            sheet, root, depth, min_x, min_y, max_x, max_y, zoom, &hidden, &mut out, &mut counts, &mut marks, &mut offset, &mut length,
+        ),
+        Some(finder) => planner_c::plans::scene_plan_with_finder(
+            sheet, finder, root, depth, min_x, min_y, max_x, max_y, zoom, &hidden, &mut out, &mut counts, &mut marks, &mut offset,
+            &mut length,
+        ),
+    };
+    (number, offset, length, sum_of(out.iter().chain(&marks).map(|byte| u64::from(*byte)).chain(counts)))
+}
+
+impl Call {
+    fn run(&self, input: &[u8]) -> Left {
+        match self {
+            Call::Open(places) => call_open(sheet_of(input), &mut vec![7; *places]),
+            Call::Plan(lent) => call_plan(input, None, *lent),
+            Call::With(finder, lent) => call_plan(input, Some(&finder.list), *lent),
+        }
+    }
+
+    fn name(&self) -> String {
+        let sizes = |lent: &Lent| format!("output {}, counts {}, marks {}", lent.out, lent.counts, lent.marks);
+        match self {
+            Call::Open(places) => format!("opened in a list of {places}"),
+            Call::Plan(lent) => sizes(lent),
+            Call::With(finder, lent) => format!("{}, {}", finder.name, sizes(lent)),
+        }
+    }
 }
 
 /// How many bytes the tape of a text has: by the length of the records of each kind.
@@ -177,38 +236,90 @@ fn tape_of(text: &str) -> usize {
     text.lines().map(size).sum()
 }
 
-/// Lengths of lent memory around what a case needs that is planned.
-fn lengths(case: &Small) -> Vec<Lent> {
-    let text = std::str::from_utf8(&case.text).unwrap();
-    if !text.contains("totals") {
-        return Vec::new();
-    }
-    let check_sheet::Checked::Sound(sheet) = check_sheet::check_sheet(&case.input[u32_of(&case.input, 0)..]) else {
-        panic!("{}: a planned case is refused", case.label);
-    };
-    let (tape, cells, depth) = (tape_of(text), sheet.cells as usize, u32_of(&case.input, 10));
-    let (counts, marks) = (cells * depth, cells * (depth + 2));
-    let mut lents: Vec<Lent> = [tape, tape + 1, tape - 1, tape - 53, tape - 54, tape.saturating_sub(55), 0].map(|out| Lent { out, counts, marks }).into();
+/// What the plan of a case needs.
+fn need(case: &Small, cells: usize) -> Lent {
+    let depth = u32_of(&case.input, 10);
+    Lent { out: tape_of(std::str::from_utf8(&case.text).unwrap()), counts: cells * depth, marks: cells * (depth + 2) }
+}
+
+/// Lengths of lent memory around what is needed.
+fn lengths(need: Lent) -> Vec<Lent> {
+    let Lent { out, counts, marks } = need;
+    let mut lents: Vec<Lent> =
+        [out, out + 1, out - 1, out - 53, out - 54, out.saturating_sub(55), 0].map(|out| Lent { out, counts, marks }).into();
     for more in [1, 9] {
-        lents.push(Lent { out: tape, counts: counts + more, marks: marks + more });
+        lents.push(Lent { out, counts: counts + more, marks: marks + more });
     }
     for less in [1, 2] {
-        lents.push(Lent { out: tape, counts: counts.saturating_sub(less), marks });
-        lents.push(Lent { out: tape, counts, marks: marks.saturating_sub(less) });
+        lents.push(Lent { out, counts: counts.saturating_sub(less), marks });
+        lents.push(Lent { out, counts, marks: marks.saturating_sub(less) });
     }
     lents
 }
 
-/// Calls of the library on the small cases, with these lengths, against the unchanged code's.
+/// Finders around the sheet's own: itself, one place longer and one short, and with one place altered by one: the first of a kind,
+/// or the last. What stands behind the sheet's places is the offset of a record, which a wrong look-up takes for one.
+fn finders(own: &[u32], firsts: [usize; 6]) -> Vec<Finder> {
+    let named = |name: String, list: &[u32]| Finder { name, list: list.to_vec() };
+    let mut found = vec![named("own finder".into(), own)];
+    let Some(last) = own.len().checked_sub(1) else {
+        found.push(named("finder of one place".into(), &[0]));
+        return found;
+    };
+    found.push(named("own finder and its last place again".into(), &[own, &own[last..]].concat()));
+    found.push(named("own finder without the last place".into(), &own[..last]));
+    let places: BTreeSet<usize> = firsts.into_iter().chain([last]).filter(|place| *place <= last).collect();
+    for place in places {
+        for (word, by) in [("more", 1), ("less", u32::MAX)] {
+            let mut other = named(format!("own finder with one {word} at place {place}"), own);
+            other.list[place] = own[place].wrapping_add(by);
+            found.push(other);
+        }
+    }
+    found
+}
+
+/// The calls on a case that is planned: none on the others.
+fn calls(case: &Small) -> Vec<Call> {
+    if !std::str::from_utf8(&case.text).unwrap().contains("totals") {
+        return Vec::new();
+    }
+    let sheet = sheet_of(&case.input);
+    let check_sheet::Checked::Sound(counts) = check_sheet::check_sheet(sheet) else {
+        panic!("{}: a planned case is refused", case.label);
+    };
+    let need = need(case, counts.cells as usize);
+    let mut calls: Vec<Call> = lengths(need).into_iter().map(Call::Plan).collect();
+    let (_, _, places, _) = call_open(sheet, &mut []);
+    calls.extend([places, places + 1, places.saturating_sub(1), 0].map(Call::Open));
+    let mut own = vec![0; places];
+    call_open(sheet, &mut own);
+    let lent = Lent { out: need.out + 1, counts: need.counts + 1, marks: need.marks + 1 };
+    calls.extend(finders(&own, finder::starts(counts)).into_iter().map(|finder| Call::With(finder, lent)));
+    calls
+}
+
+/// A case of depth 0 with the first root that the sheet lacks.
+fn without_root(case: &Small) -> Option<Small> {
+    let check_sheet::Checked::Sound(counts) = check_sheet::check_sheet(sheet_of(&case.input)) else { return None };
+    let mut input = case.input.clone();
+    input[6..10].copy_from_slice(&counts.cells.to_le_bytes());
+    Some(Small { label: format!("{}, root {}", case.label, counts.cells), input, text: b"totals 0 0 0 0 0 0\n".to_vec() })
+}
+
+/// Calls of the library on the small cases, against the unchanged code's.
 fn run_lent(cases: &[Small], change: u32) -> Option<String> {
-    for case in cases.iter().filter(|case| case.text.len() < 10_000) {
+    switch::CHANGE.store(0, Relaxed);
+    let at_depth_0 = |case: &&Small| case.text.starts_with(b"proxy") && u32_of(&case.input, 10) == 0;
+    let rootless: Vec<Small> = cases.iter().filter(at_depth_0).filter_map(without_root).collect();
+    for case in cases.iter().chain(&rootless).filter(|case| case.text.len() < 10_000) {
         switch::CHANGE.store(0, Relaxed);
-        for lent in lengths(case) {
+        for call in calls(case) {
             switch::CHANGE.store(0, Relaxed);
-            let expected = call(&case.input, &lent);
+            let expected = call.run(&case.input);
             switch::CHANGE.store(change, Relaxed);
-            if sees(|| call(&case.input, &lent) == expected) {
-                return Some(format!("{}, output {}, counts {}, marks {}", case.label, lent.out, lent.counts, lent.marks));
+            if sees(|| call.run(&case.input) == expected) {
+                return Some(format!("{}, {}", case.label, call.name()));
             }
         }
     }
@@ -242,23 +353,22 @@ fn large_cases(repository: &str, folder: &str) -> Vec<Large> {
     }).collect()
 }
 
-/// The large cases, but for the three largest cities, for time.
-fn run_large(cases: &[Large], room: &mut Room) -> Option<String> {
-    let mut tried = cases.iter().filter(|case| case.name != "city" || case.value < 1_000);
-    let seen = tried.find(|case| sees(|| fnv1a(&room.text_of(&case.input())) == case.text));
+fn run_large(cases: &[Large]) -> Option<String> {
+    let mut room = Room::new(FINDER);
+    let seen = cases.iter().find(|case| sees(|| fnv1a(&room.text_of(&case.input())) == case.text));
     seen.map(|case| format!("{}, {}", case.name, case.value))
 }
 
 /// The kinds of runs in their order, and what the first that sees the change says.
 fn seen(repository: &str, folder: &str, change: u32, quick: bool) -> Option<(&'static str, String)> {
-    let (cases, large, mut room) = (small_cases(repository), large_cases(repository, folder), Room::new());
-    run_small(&cases, &mut room).map(|case| ("small", case))
+    let (cases, large) = (small_cases(repository), large_cases(repository, folder));
+    run_small(&cases).map(|case| ("small", case))
         .or_else(|| run_sheets(repository).map(|case| ("sheets", case)))
         .or_else(|| run_floats(repository).map(|case| ("floats", case)))
         .or_else(|| run_lent(&cases, change).map(|case| ("lent", case)))
         .or_else(|| run_programs(with_faults()).map(|case| ("program", case)))
         .or_else(|| run_programs(at_buffers()).map(|case| ("program", case)))
-        .or_else(|| if quick { None } else { run_large(&large, &mut room).map(|case| ("large", case)) })
+        .or_else(|| if quick { None } else { run_large(&large).map(|case| ("large", case)) })
         .or_else(|| run_programs(at_lent(&large)).map(|case| ("program", case)))
 }
 

@@ -7,9 +7,9 @@ picks one change of one place, or none, and for a test that is called from sever
 import os, re
 
 # The crates of the planner, of `check_sheet` and of the program `plan`, with the lowest first.
-CRATES = """floats rounding fused fields geometry grid screen walk look_up records check_record check_sheet plan_rules limits
-scratch check_query tape events pushes units visit_items enter_cell open_reference try_member visits planner planner_c
-check_sheet_c plan_query plan_text streams plan_answer plan""".split()
+CRATES = """floats rounding fused fields geometry grid screen walk records check_record check_sheet check_sheet_c look_up finder
+open_sheet plan_rules limits scratch check_query tape events pushes units visit_items enter_cell open_reference try_member visits
+planner planner_c plan_query plan_text streams plan_answer plan""".split()
 SYSTEM = ['io', 'libc', 'os']  # what they call of the system: system.rs has stand-ins
 
 # Where numbers outside of comparisons are changed too: exponents, shifts and masks, the places of the scratch, and what `plan` lends.
@@ -23,9 +23,12 @@ STARTS = {'TRIES'}
 # Functions with limit tests that are called from several places: their tests are changed for one call at a time, too, since
 # compiled code has a copy of the test at each.
 CALLED = {'detail_budget_exhausted', 'detail_cells_full', 'add_load', 'add_load_if_boxed', 'load_cell', 'overlaps', 'point_in_bbox',
-          'is_subpixel', 'collapse_test', 'all_below', 'zero_box', 'f64_is_finite', 'f32_is_finite', 'source_is_degenerate'}
+          'is_subpixel', 'collapse_test', 'all_below', 'zero_box', 'f64_is_finite', 'f32_is_finite', 'source_is_degenerate',
+          'count_for', 'start_for', 'look_up', 'clear_bytes', 'clear_counts'}
 # What a call of these reaches through another of them.
 THROUGH = {'add_load_if_boxed': 'add_load', 'load_cell': 'add_load'}
+# Functions that one of these alone calls: their tests belong to it.
+PARTS = {'look_in': 'look_up'}
 
 TOKEN = re.compile(r'''//[^\n]*|\s+|b"(?:\\.|[^"\\])*"|b'(?:\\.|[^'\\])'|[A-Za-z_]\w*|\d[\w]*(?:\.\d+\w*)?
     |<<|>>|<=|>=|==|!=|&&|\|\||->|=>|\+=|-=|::|\.\.|.''', re.X | re.S)
@@ -42,9 +45,9 @@ class Call:
     def __init__(self, crate, file, function, callee):
         self.crate, self.file, self.function, self.callee, self.again = crate, file, function, callee, 0
 
-    def reaches(self):
-        """The function whose tests are changed."""
-        return THROUGH.get(self.callee, self.callee)
+    def reaches(self, function):
+        """Whether the tests of the function are changed."""
+        return PARTS.get(function, function) == THROUGH.get(self.callee, self.callee)
 
     def name(self):
         again = f' ({self.again + 1})' if self.again else ''
