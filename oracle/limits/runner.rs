@@ -23,8 +23,8 @@ const MARKS: usize = 139_264;
 const TEXT: usize = 65_536;
 const FINDER: usize = 645_277;
 
-/// The finder that `plan_vectors` lends, which is enough for its cases.
-const FINDER_OF_VECTORS: usize = 64;
+/// The finder that `plan_vectors` lends, which is enough for two thirds of its planned cases.
+const FINDER_OF_VECTORS: usize = 8;
 
 struct Room {
     finder: Vec<u32>,
