@@ -39,6 +39,7 @@ use crate::parts::bounds_within;
 use crate::parts::dvec2_at;
 use crate::parts::dvec2_within;
 use crate::parts::from;
+use crate::parts::length_from;
 use crate::parts::source_of;
 use crate::parts::world_bbox_at;
 use geometry::placement::DVec2;
@@ -179,10 +180,8 @@ fn reference_cut_short(s: &[u8], at: usize) -> PreparedReference
 pub fn reference_at(s: &[u8], at: usize) -> PreparedReference
     ensures { λ r. ⌜ r ≡ referenceAt (now (s .entry)) at ⌝ }
 {
-    if at < s.len() {
-        if REFERENCE_END <= s.len() - at {
-            return reference_within(s, at);
-        }
+    if REFERENCE_END <= length_from(s, at) {
+        return reference_within(s, at);
     }
     reference_cut_short(s, at)
 }

@@ -1,6 +1,6 @@
 // What the body of a record is made of: points, boxes, flags and sources.
 ghost use mathlib.Core.Path.{_≡_};
-ghost use Prim.Native.Nat.{_+_, _*_, _<_, _≤_};
+ghost use Prim.Native.Nat.{_+_, _-_, _*_, _<_, _≤_};
 ghost use lib.ListN.{length, drop};
 ghost use Rattle.records.specs.Format.{f};
 ghost use Rattle.records.specs.Records.{dvec2At, worldBBoxAt, boundsAt, bit, sourceOf};
@@ -10,6 +10,16 @@ use crate::format::FLOAT;
 use geometry::bbox::Bounds;
 use geometry::bbox::WorldBBox;
 use geometry::placement::DVec2;
+
+// How many bytes there are from an offset on.
+pub fn length_from(s: &[u8], at: usize) -> usize
+    ensures { λ r. ⌜ r ≡ length (now (s .entry)) - at ⌝ }
+{
+    if at < s.len() {
+        return s.len() - at;
+    }
+    0
+}
 
 // The bytes from an offset on.
 pub fn from(s: &[u8], at: usize) -> &[u8]
@@ -41,6 +51,18 @@ pub fn dvec2_at(s: &[u8], at: usize) -> DVec2
     }
 }
 
+pub fn world_bbox_within(s: &[u8], at: usize) -> WorldBBox
+    requires { ⌜ at + 4 * f ≤ length (now s) ⌝ }
+    ensures { λ r. ⌜ r ≡ worldBBoxAt (now (s .entry)) at ⌝ }
+{
+    WorldBBox {
+        min_x: fields::f64_within(s, at),
+        min_y: fields::f64_within(s, at + FLOAT),
+        max_x: fields::f64_within(s, at + 2 * FLOAT),
+        max_y: fields::f64_within(s, at + 3 * FLOAT),
+    }
+}
+
 pub fn world_bbox_at(s: &[u8], at: usize) -> WorldBBox
     ensures { λ r. ⌜ r ≡ worldBBoxAt (now (s .entry)) at ⌝ }
 {
@@ -59,12 +81,8 @@ pub fn bounds_within(s: &[u8], at: usize, present: bool) -> Bounds
     ensures { λ r. ⌜ r ≡ boundsAt (now (s .entry)) at present ⌝ }
 {
     if present {
-        return Bounds::Box(
-            fields::f64_within(s, at),
-            fields::f64_within(s, at + FLOAT),
-            fields::f64_within(s, at + 2 * FLOAT),
-            fields::f64_within(s, at + 3 * FLOAT),
-        );
+        let bbox = world_bbox_within(s, at);
+        return Bounds::Box(bbox.min_x, bbox.min_y, bbox.max_x, bbox.max_y);
     }
     Bounds::Absent
 }
