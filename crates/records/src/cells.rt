@@ -17,9 +17,42 @@ use crate::format::REFERENCE_COUNT;
 use crate::format::TEXT_COUNT;
 use crate::parts::bit;
 use crate::parts::bounds_at;
+use crate::parts::bounds_within;
 use crate::parts::from;
+use crate::parts::length_from;
 
-pub fn cell_at(s: &[u8], at: usize) -> PreparedCell
+pub fn list_counts_within(s: &[u8], at: usize) -> ListCounts
+    requires { ⌜ at + endOf cell ≤ length (now s) ⌝ }
+    ensures { λ r. ⌜ r ≡ listCountsAt (now (s .entry)) at ⌝ }
+{
+    ListCounts {
+        geometries: fields::u16_within(s, at + GEOMETRY_COUNT),
+        texts: fields::u16_within(s, at + TEXT_COUNT),
+        nodes: fields::u16_within(s, at + NODE_COUNT),
+        references: fields::u16_within(s, at + REFERENCE_COUNT),
+    }
+}
+
+fn cell_within(s: &[u8], at: usize) -> PreparedCell
+    requires { ⌜ at + endOf cell ≤ length (now s) ⌝ }
+    ensures { λ r. ⌜ r ≡ cellAt (now (s .entry)) at ⌝ }
+{
+    let counts = list_counts_within(s, at);
+    PreparedCell {
+        direct_draw_units: fields::u64_within(s, at + DRAW_UNITS),
+        bbox: bounds_within(
+            s,
+            at + CELL_BOX,
+            bit(fields::u16_within(s, at + CELL_FLAGS), 0),
+        ),
+        geometries: counts.geometries as u32,
+        texts: counts.texts as u32,
+        nodes: counts.nodes as u32,
+        references: counts.references as u32,
+    }
+}
+
+fn cell_cut_short(s: &[u8], at: usize) -> PreparedCell
     ensures { λ r. ⌜ r ≡ cellAt (now (s .entry)) at ⌝ }
 {
     let body = from(s, at);
@@ -33,16 +66,14 @@ pub fn cell_at(s: &[u8], at: usize) -> PreparedCell
     }
 }
 
-pub fn list_counts_within(s: &[u8], at: usize) -> ListCounts
-    requires { ⌜ at + endOf cell ≤ length (now s) ⌝ }
-    ensures { λ r. ⌜ r ≡ listCountsAt (now (s .entry)) at ⌝ }
+// One test that the whole record lies within the bytes spares one at each field.
+pub fn cell_at(s: &[u8], at: usize) -> PreparedCell
+    ensures { λ r. ⌜ r ≡ cellAt (now (s .entry)) at ⌝ }
 {
-    ListCounts {
-        geometries: fields::u16_within(s, at + GEOMETRY_COUNT),
-        texts: fields::u16_within(s, at + TEXT_COUNT),
-        nodes: fields::u16_within(s, at + NODE_COUNT),
-        references: fields::u16_within(s, at + REFERENCE_COUNT),
+    if CELL_END <= length_from(s, at) {
+        return cell_within(s, at);
     }
+    cell_cut_short(s, at)
 }
 
 // ---- The lists of a cell, by list place

@@ -1,8 +1,9 @@
 // Batches, texts, nodes and references, at a record's offset.
+// One test that the whole record lies within the bytes spares one at each field; a record cut short by their end is read field by field.
 ghost use mathlib.Core.Path.{_≡_};
 ghost use Prim.Native.Nat.{_+_, _≤_};
 ghost use lib.ListN.{length};
-ghost use Rattle.records.specs.Format.{reference, endOf};
+ghost use Rattle.records.specs.Format.{geometry, text, node, reference, endOf};
 ghost use Rattle.records.specs.Records.{geometryAt, textAt, pointsOf, nodeAt, nodePointAt, gridAt, referenceAt, sourceFieldAt};
 use crate::PreparedGeometry;
 use crate::PreparedNode;
@@ -14,6 +15,7 @@ use crate::format::COS;
 use crate::format::ELEMENT_COUNT;
 use crate::format::GEOMETRY_BOX;
 use crate::format::GEOMETRY_DATA_TYPE;
+use crate::format::GEOMETRY_END;
 use crate::format::GEOMETRY_LAYER;
 use crate::format::MAGNIFICATION;
 use crate::format::NODE_END;
@@ -31,6 +33,7 @@ use crate::format::SOURCE_NUMBER;
 use crate::format::SPACING_X;
 use crate::format::SPACING_Y;
 use crate::format::TEXT_DATA_TYPE;
+use crate::format::TEXT_END;
 use crate::format::TEXT_LAYER;
 use crate::format::TEXT_ORIGIN;
 use crate::parts::bit;
@@ -42,10 +45,23 @@ use crate::parts::from;
 use crate::parts::length_from;
 use crate::parts::source_of;
 use crate::parts::world_bbox_at;
+use crate::parts::world_bbox_within;
 use geometry::placement::DVec2;
 use grid::Grid;
 
-pub fn geometry_at(s: &[u8], at: usize) -> PreparedGeometry
+fn geometry_within(s: &[u8], at: usize) -> PreparedGeometry
+    requires { ⌜ at + endOf geometry ≤ length (now s) ⌝ }
+    ensures { λ r. ⌜ r ≡ geometryAt (now (s .entry)) at ⌝ }
+{
+    PreparedGeometry {
+        layer: fields::u16_within(s, at + GEOMETRY_LAYER) as u32,
+        data_type: fields::u16_within(s, at + GEOMETRY_DATA_TYPE) as u32,
+        element_count: fields::u32_within(s, at + ELEMENT_COUNT),
+        bbox: world_bbox_within(s, at + GEOMETRY_BOX),
+    }
+}
+
+fn geometry_cut_short(s: &[u8], at: usize) -> PreparedGeometry
     ensures { λ r. ⌜ r ≡ geometryAt (now (s .entry)) at ⌝ }
 {
     let body = from(s, at);
@@ -57,7 +73,27 @@ pub fn geometry_at(s: &[u8], at: usize) -> PreparedGeometry
     }
 }
 
-pub fn text_at(s: &[u8], at: usize) -> PreparedText
+pub fn geometry_at(s: &[u8], at: usize) -> PreparedGeometry
+    ensures { λ r. ⌜ r ≡ geometryAt (now (s .entry)) at ⌝ }
+{
+    if GEOMETRY_END <= length_from(s, at) {
+        return geometry_within(s, at);
+    }
+    geometry_cut_short(s, at)
+}
+
+fn text_within(s: &[u8], at: usize) -> PreparedText
+    requires { ⌜ at + endOf text ≤ length (now s) ⌝ }
+    ensures { λ r. ⌜ r ≡ textAt (now (s .entry)) at ⌝ }
+{
+    PreparedText {
+        layer: fields::u16_within(s, at + TEXT_LAYER) as u32,
+        data_type: fields::u16_within(s, at + TEXT_DATA_TYPE) as u32,
+        origin: dvec2_within(s, at + TEXT_ORIGIN),
+    }
+}
+
+fn text_cut_short(s: &[u8], at: usize) -> PreparedText
     ensures { λ r. ⌜ r ≡ textAt (now (s .entry)) at ⌝ }
 {
     let body = from(s, at);
@@ -66,6 +102,15 @@ pub fn text_at(s: &[u8], at: usize) -> PreparedText
         data_type: fields::u16_at(body, TEXT_DATA_TYPE) as u32,
         origin: dvec2_at(body, TEXT_ORIGIN),
     }
+}
+
+pub fn text_at(s: &[u8], at: usize) -> PreparedText
+    ensures { λ r. ⌜ r ≡ textAt (now (s .entry)) at ⌝ }
+{
+    if TEXT_END <= length_from(s, at) {
+        return text_within(s, at);
+    }
+    text_cut_short(s, at)
 }
 
 // How many points a node of a length has.
@@ -78,7 +123,18 @@ fn points_of(length: u32) -> u32
     (length - NODE_END as u32) / POINT as u32
 }
 
-pub fn node_at(s: &[u8], at: usize) -> PreparedNode
+fn node_within(s: &[u8], at: usize) -> PreparedNode
+    requires { ⌜ at + endOf node ≤ length (now s) ⌝ }
+    ensures { λ r. ⌜ r ≡ nodeAt (now (s .entry)) at ⌝ }
+{
+    PreparedNode {
+        layer: fields::u16_within(s, at + NODE_LAYER) as u32,
+        node_type: fields::u16_within(s, at + NODE_TYPE) as u32,
+        points: points_of(fields::u32_within(s, at)),
+    }
+}
+
+fn node_cut_short(s: &[u8], at: usize) -> PreparedNode
     ensures { λ r. ⌜ r ≡ nodeAt (now (s .entry)) at ⌝ }
 {
     let body = from(s, at);
@@ -89,12 +145,24 @@ pub fn node_at(s: &[u8], at: usize) -> PreparedNode
     }
 }
 
+pub fn node_at(s: &[u8], at: usize) -> PreparedNode
+    ensures { λ r. ⌜ r ≡ nodeAt (now (s .entry)) at ⌝ }
+{
+    if NODE_END <= length_from(s, at) {
+        return node_within(s, at);
+    }
+    node_cut_short(s, at)
+}
+
 // A point of a node, counted from 0.
 pub fn node_point_at(s: &[u8], at: usize, i: u32) -> DVec2
     ensures { λ r. ⌜ r ≡ nodePointAt (now (s .entry)) at i ⌝ }
 {
-    let body = from(s, at);
-    dvec2_at(body, NODE_END + POINT * (i as usize))
+    let place = NODE_END + POINT * (i as usize);
+    if place + POINT <= length_from(s, at) {
+        return dvec2_within(s, at + place);
+    }
+    dvec2_at(from(s, at), place)
 }
 
 fn grid_within(s: &[u8], at: usize) -> Grid
@@ -157,7 +225,6 @@ fn reference_within(s: &[u8], at: usize) -> PreparedReference
     }
 }
 
-// A reference whose record may run past the end, field by field.
 fn reference_cut_short(s: &[u8], at: usize) -> PreparedReference
     ensures { λ r. ⌜ r ≡ referenceAt (now (s .entry)) at ⌝ }
 {
@@ -176,7 +243,6 @@ fn reference_cut_short(s: &[u8], at: usize) -> PreparedReference
     }
 }
 
-// One test that the whole record lies within the bytes spares one at each field.
 pub fn reference_at(s: &[u8], at: usize) -> PreparedReference
     ensures { λ r. ⌜ r ≡ referenceAt (now (s .entry)) at ⌝ }
 {

@@ -1,11 +1,11 @@
--- `records::items::text_at` meets its contract. Assumes nothing.
+-- `records::items::text_cut_short` meets its contract. Assumes nothing.
 use mathlib.Core.Path.{_∙_}
 use denote.Ref.{now}
 use Rattle.records.specs.Records.{textAt}
 use Rattle.records.proofs.Body.{uint-in, dvec2-in}
 use borrow.Author.Needs.{needs}
-use Rattle.records.proofs.items.text_at.Statement.{statement}
-use Rattle.records.proofs.items.text_at.Tie as tie
+use Rattle.records.proofs.items.text_cut_short.Statement.{statement}
+use Rattle.records.proofs.items.text_cut_short.Tie as tie
 
 returns : tie.Need-returns
 unfolding textAt
@@ -19,8 +19,8 @@ returns c =
       origin = (c .dvec2-at .ensures ∙ point _) i;
     }
 
-pub text-at-spec : {M : Type 1} → statement M
-text-at-spec =
+pub text-cut-short-spec : {M : Type 1} → statement M
+text-cut-short-spec =
     tie.close
     (tie.spec
     (λ c κs. search needs)

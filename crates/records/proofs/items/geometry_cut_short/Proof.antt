@@ -1,11 +1,11 @@
--- `records::items::geometry_at` meets its contract. Assumes nothing.
+-- `records::items::geometry_cut_short` meets its contract. Assumes nothing.
 use mathlib.Core.Path.{_∙_}
 use denote.Ref.{now}
 use Rattle.records.specs.Records.{geometryAt}
 use Rattle.records.proofs.Body.{uint-in, bbox-in}
 use borrow.Author.Needs.{needs}
-use Rattle.records.proofs.items.geometry_at.Statement.{statement}
-use Rattle.records.proofs.items.geometry_at.Tie as tie
+use Rattle.records.proofs.items.geometry_cut_short.Statement.{statement}
+use Rattle.records.proofs.items.geometry_cut_short.Tie as tie
 
 returns : tie.Need-returns
 unfolding geometryAt
@@ -20,8 +20,8 @@ returns c =
       bbox = (c .world-bbox-at .ensures ∙ box _) i;
     }
 
-pub geometry-at-spec : {M : Type 1} → statement M
-geometry-at-spec =
+pub geometry-cut-short-spec : {M : Type 1} → statement M
+geometry-cut-short-spec =
     tie.close
     (tie.spec
     (λ c κs. search needs)

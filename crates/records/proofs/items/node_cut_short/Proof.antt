@@ -1,11 +1,11 @@
--- `records::items::node_at` meets its contract. Assumes nothing.
+-- `records::items::node_cut_short` meets its contract. Assumes nothing.
 use mathlib.Core.Path.{ap, _∙_}
 use denote.Ref.{now}
 use Rattle.records.specs.Records.{pointsOf, nodeAt}
 use Rattle.records.proofs.Body.{uint-in}
 use borrow.Author.Needs.{needs}
-use Rattle.records.proofs.items.node_at.Statement.{statement}
-use Rattle.records.proofs.items.node_at.Tie as tie
+use Rattle.records.proofs.items.node_cut_short.Statement.{statement}
+use Rattle.records.proofs.items.node_cut_short.Tie as tie
 
 returns : tie.Need-returns
 unfolding nodeAt
@@ -18,8 +18,8 @@ returns c =
       points = (c .points-of .ensures ∙ ap pointsOf (c .before .u32-at .ensures)) i;
     }
 
-pub node-at-spec : {M : Type 1} → statement M
-node-at-spec =
+pub node-cut-short-spec : {M : Type 1} → statement M
+node-cut-short-spec =
     tie.close
     (tie.spec
     (λ c κs. search needs)

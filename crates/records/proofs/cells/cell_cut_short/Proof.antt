@@ -1,4 +1,4 @@
--- `records::cells::cell_at` meets its contract. Assumes nothing.
+-- `records::cells::cell_cut_short` meets its contract. Assumes nothing.
 use Prim.Native.Nat.{ℕ, _+_}
 use mathlib.Core.Path.{ap, _∙_}
 use mathlib.Core.Bool.{Bool}
@@ -6,8 +6,8 @@ use denote.Ref.{now}
 use Rattle.records.specs.Records.{bit, boundsAt, cellAt}
 use Rattle.records.proofs.Body.{uint-in, bounds-in}
 use borrow.Author.Needs.{needs}
-use Rattle.records.proofs.cells.cell_at.Statement.{statement}
-use Rattle.records.proofs.cells.cell_at.Tie as tie
+use Rattle.records.proofs.cells.cell_cut_short.Statement.{statement}
+use Rattle.records.proofs.cells.cell_cut_short.Tie as tie
 
 returns : tie.Need-returns
 unfolding cellAt
@@ -24,8 +24,8 @@ returns c =
       references = (c .u16-at5 .ensures ∙ uint _ _) i;
     }
 
-pub cell-at-spec : {M : Type 1} → statement M
-cell-at-spec =
+pub cell-cut-short-spec : {M : Type 1} → statement M
+cell-cut-short-spec =
     tie.close
     (tie.spec
     (λ c κs. search needs)
