@@ -1,38 +1,30 @@
--- A field of a record's bytes is the field of the sheet at the record's offset: for each kind of field that a reader reads.
+-- A number in a record's bytes is the number in the sheet at the record's offset; zeros after the bytes change none.
 -- Assumes nothing.
-use mathlib.Core.Path.{_≡_, ap, _∙_}
-use Prim.Native.Nat.{ℕ, _+_}
-use native.Mathlib.Omega.{arith}
-use mathlib.Core.List.{List}
-use mathlib.Core.Bool.{Bool}
-use lib.ListN.{drop}
-use lib.Ieee.{binary64, ofBits}
-use Rattle.fields.specs.Field.{uintAt, f64At}
-use Rattle.fields.proofs.Reading.{uintAt-drop}
-use Rattle.records.specs.Records.{dvec2At, worldBBoxAt, boundsAt}
+use mathlib.Core.Path.{_≡_, refl, ap, _∙_}
+use Prim.Native.Nat.{ℕ, zero, suc, _+_}
+use mathlib.Core.List.{List, [], _∷_, _++_}
+use lib.ListN.{length, getD, take, drop, replicate}
+use lib.Seq.{take-length, getD-drop}
+use Rattle.fields.specs.Field.{uintAt}
+use Rattle.fields.proofs.Reading.{uintAt-same, uintAt-drop}
 
 -- the body is the bytes of the sheet from an offset on
-module _ (body s : List ℕ) (at : ℕ) (from : body ≡ drop at s) (j : ℕ) where
-  pub uint-in : (k : ℕ) → uintAt k body j ≡ uintAt k s (at + j)
-  uint-in k = ap (λ (l : List ℕ). uintAt k l j) from ∙ uintAt-drop k at s j
+pub uint-in : (body s : List ℕ) (at : ℕ) → body ≡ drop at s → (j k : ℕ) → uintAt k body j ≡ uintAt k s (at + j)
+uint-in body s at from j k = ap (λ (l : List ℕ). uintAt k l j) from ∙ uintAt-drop k at s j
 
-  pub f64-in : f64At body j ≡ f64At s (at + j)
-  unfolding f64At
-  f64-in = ap (ofBits binary64) (uint-in 8)
+-- ---- zeros after it
 
-module _ (body s : List ℕ) (at : ℕ) (from : body ≡ drop at s) (j : ℕ) where
-  -- a float i bytes after j
-  later : (i : ℕ) → f64At body (j + i) ≡ f64At s (at + j + i)
-  later i = let e : at + (j + i) ≡ at + j + i = omega arith in f64-in body s at from (j + i) ∙ ap (f64At s) e
+zeros : (n i : ℕ) → _≡_ {A = ℕ} (getD (replicate n 0) i 0) 0
+zeros zero i = refl
+zeros (suc n) zero = refl
+zeros (suc n) (suc i) = zeros n i
 
-  pub dvec2-in : dvec2At body j ≡ dvec2At s (at + j)
-  unfolding dvec2At
-  dvec2-in = λ i. record { x = f64-in body s at from j i; y = later 8 i }
+zeros-after : (l : List ℕ) (m n i : ℕ) → getD (l ++ drop m (replicate n 0)) i 0 ≡ getD l i 0
+zeros-after [] m n i = getD-drop m (replicate n 0) i 0 ∙ zeros n (m + i)
+zeros-after (x ∷ l) m n zero = refl
+zeros-after (x ∷ l) m n (suc i) = zeros-after l m n i
 
-  pub bbox-in : worldBBoxAt body j ≡ worldBBoxAt s (at + j)
-  unfolding worldBBoxAt
-  bbox-in = λ i. record { «min_x» = f64-in body s at from j i; «min_y» = later 8 i; «max_x» = later 16 i; «max_y» = later 24 i }
-
-  pub bounds-in : (present : Bool) → boundsAt body j present ≡ boundsAt s (at + j) present
-  unfolding boundsAt
-  bounds-in present = rw (f64-in body s at from j, later 8, later 16, later 24)
+pub uint-padded : (t body : List ℕ) (n : ℕ) → t ≡ take (length body) body ++ drop (length body) (replicate n 0) → (j k : ℕ) → uintAt k t j ≡ uintAt k body j
+uint-padded t body n copied j k =
+    let all : t ≡ body ++ drop (length body) (replicate n 0) = copied ∙ ap (λ (l : List ℕ). l ++ drop (length body) (replicate n 0)) (take-length body) in
+    uintAt-same k t body j j (λ i _. ap (λ (l : List ℕ). getD l (j + i) 0) all ∙ zeros-after body (length body) n (j + i))

@@ -16,10 +16,10 @@ use crate::format::NUMBER;
 use crate::format::REFERENCE_COUNT;
 use crate::format::TEXT_COUNT;
 use crate::parts::bit;
-use crate::parts::bounds_at;
 use crate::parts::bounds_within;
 use crate::parts::from;
 use crate::parts::length_from;
+use crate::parts::padded;
 
 pub fn list_counts_within(s: &[u8], at: usize) -> ListCounts
     requires { ⌜ at + endOf cell ≤ length (now s) ⌝ }
@@ -52,20 +52,6 @@ fn cell_within(s: &[u8], at: usize) -> PreparedCell
     }
 }
 
-fn cell_cut_short(s: &[u8], at: usize) -> PreparedCell
-    ensures { λ r. ⌜ r ≡ cellAt (now (s .entry)) at ⌝ }
-{
-    let body = from(s, at);
-    PreparedCell {
-        direct_draw_units: fields::u64_at(body, DRAW_UNITS),
-        bbox: bounds_at(body, CELL_BOX, bit(fields::u16_at(body, CELL_FLAGS), 0)),
-        geometries: fields::u16_at(body, GEOMETRY_COUNT) as u32,
-        texts: fields::u16_at(body, TEXT_COUNT) as u32,
-        nodes: fields::u16_at(body, NODE_COUNT) as u32,
-        references: fields::u16_at(body, REFERENCE_COUNT) as u32,
-    }
-}
-
 // One test that the whole record lies within the bytes spares one at each field.
 pub fn cell_at(s: &[u8], at: usize) -> PreparedCell
     ensures { λ r. ⌜ r ≡ cellAt (now (s .entry)) at ⌝ }
@@ -73,7 +59,7 @@ pub fn cell_at(s: &[u8], at: usize) -> PreparedCell
     if CELL_END <= length_from(s, at) {
         return cell_within(s, at);
     }
-    cell_cut_short(s, at)
+    cell_within(&padded(s, at), 0)
 }
 
 // ---- The lists of a cell, by list place

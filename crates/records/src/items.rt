@@ -1,5 +1,5 @@
 // Batches, texts, nodes and references, at a record's offset.
-// One test that the whole record lies within the bytes spares one at each field; a record cut short by their end is read field by field.
+// One test that the whole record lies within the bytes spares one at each field; of a record cut short by their end a copy with zeros after it is read.
 ghost use mathlib.Core.Path.{_≡_};
 ghost use Prim.Native.Nat.{_+_, _≤_};
 ghost use lib.ListN.{length};
@@ -37,14 +37,12 @@ use crate::format::TEXT_END;
 use crate::format::TEXT_LAYER;
 use crate::format::TEXT_ORIGIN;
 use crate::parts::bit;
-use crate::parts::bounds_at;
 use crate::parts::bounds_within;
-use crate::parts::dvec2_at;
 use crate::parts::dvec2_within;
 use crate::parts::from;
 use crate::parts::length_from;
+use crate::parts::padded;
 use crate::parts::source_of;
-use crate::parts::world_bbox_at;
 use crate::parts::world_bbox_within;
 use geometry::placement::DVec2;
 use grid::Grid;
@@ -61,25 +59,13 @@ fn geometry_within(s: &[u8], at: usize) -> PreparedGeometry
     }
 }
 
-fn geometry_cut_short(s: &[u8], at: usize) -> PreparedGeometry
-    ensures { λ r. ⌜ r ≡ geometryAt (now (s .entry)) at ⌝ }
-{
-    let body = from(s, at);
-    PreparedGeometry {
-        layer: fields::u16_at(body, GEOMETRY_LAYER) as u32,
-        data_type: fields::u16_at(body, GEOMETRY_DATA_TYPE) as u32,
-        element_count: fields::u32_at(body, ELEMENT_COUNT),
-        bbox: world_bbox_at(body, GEOMETRY_BOX),
-    }
-}
-
 pub fn geometry_at(s: &[u8], at: usize) -> PreparedGeometry
     ensures { λ r. ⌜ r ≡ geometryAt (now (s .entry)) at ⌝ }
 {
     if GEOMETRY_END <= length_from(s, at) {
         return geometry_within(s, at);
     }
-    geometry_cut_short(s, at)
+    geometry_within(&padded(s, at), 0)
 }
 
 fn text_within(s: &[u8], at: usize) -> PreparedText
@@ -93,24 +79,13 @@ fn text_within(s: &[u8], at: usize) -> PreparedText
     }
 }
 
-fn text_cut_short(s: &[u8], at: usize) -> PreparedText
-    ensures { λ r. ⌜ r ≡ textAt (now (s .entry)) at ⌝ }
-{
-    let body = from(s, at);
-    PreparedText {
-        layer: fields::u16_at(body, TEXT_LAYER) as u32,
-        data_type: fields::u16_at(body, TEXT_DATA_TYPE) as u32,
-        origin: dvec2_at(body, TEXT_ORIGIN),
-    }
-}
-
 pub fn text_at(s: &[u8], at: usize) -> PreparedText
     ensures { λ r. ⌜ r ≡ textAt (now (s .entry)) at ⌝ }
 {
     if TEXT_END <= length_from(s, at) {
         return text_within(s, at);
     }
-    text_cut_short(s, at)
+    text_within(&padded(s, at), 0)
 }
 
 // How many points a node of a length has.
@@ -134,24 +109,13 @@ fn node_within(s: &[u8], at: usize) -> PreparedNode
     }
 }
 
-fn node_cut_short(s: &[u8], at: usize) -> PreparedNode
-    ensures { λ r. ⌜ r ≡ nodeAt (now (s .entry)) at ⌝ }
-{
-    let body = from(s, at);
-    PreparedNode {
-        layer: fields::u16_at(body, NODE_LAYER) as u32,
-        node_type: fields::u16_at(body, NODE_TYPE) as u32,
-        points: points_of(fields::u32_at(s, at)),
-    }
-}
-
 pub fn node_at(s: &[u8], at: usize) -> PreparedNode
     ensures { λ r. ⌜ r ≡ nodeAt (now (s .entry)) at ⌝ }
 {
     if NODE_END <= length_from(s, at) {
         return node_within(s, at);
     }
-    node_cut_short(s, at)
+    node_within(&padded(s, at), 0)
 }
 
 // A point of a node, counted from 0.
@@ -162,7 +126,7 @@ pub fn node_point_at(s: &[u8], at: usize, i: u32) -> DVec2
     if place + POINT <= length_from(s, at) {
         return dvec2_within(s, at + place);
     }
-    dvec2_at(from(s, at), place)
+    dvec2_within(&padded(from(s, at), place), 0)
 }
 
 fn grid_within(s: &[u8], at: usize) -> Grid
@@ -179,23 +143,6 @@ fn grid_within(s: &[u8], at: usize) -> Grid
         magnification: fields::f64_within(s, at + MAGNIFICATION),
         cos: fields::f64_within(s, at + COS),
         sin: fields::f64_within(s, at + SIN),
-    }
-}
-
-fn grid_at(s: &[u8], at: usize) -> Grid
-    ensures { λ r. ⌜ r ≡ gridAt (now (s .entry)) at ⌝ }
-{
-    let body = from(s, at);
-    Grid {
-        columns: fields::u16_at(body, COLUMNS) as u32,
-        rows: fields::u16_at(body, ROWS) as u32,
-        x_reflection: bit(fields::u16_at(body, REFERENCE_FLAGS), 0),
-        origin: dvec2_at(body, REFERENCE_ORIGIN),
-        spacing_x: dvec2_at(body, SPACING_X),
-        spacing_y: dvec2_at(body, SPACING_Y),
-        magnification: fields::f64_at(body, MAGNIFICATION),
-        cos: fields::f64_at(body, COS),
-        sin: fields::f64_at(body, SIN),
     }
 }
 
@@ -225,29 +172,11 @@ fn reference_within(s: &[u8], at: usize) -> PreparedReference
     }
 }
 
-fn reference_cut_short(s: &[u8], at: usize) -> PreparedReference
-    ensures { λ r. ⌜ r ≡ referenceAt (now (s .entry)) at ⌝ }
-{
-    let body = from(s, at);
-    PreparedReference {
-        grid: grid_at(s, at),
-        source: source_of(
-            fields::u16_at(body, SOURCE_KIND),
-            fields::u32_at(body, SOURCE_NUMBER),
-        ),
-        source_bbox: bounds_at(
-            body,
-            SOURCE_BOX,
-            bit(fields::u16_at(body, REFERENCE_FLAGS), 1),
-        ),
-    }
-}
-
 pub fn reference_at(s: &[u8], at: usize) -> PreparedReference
     ensures { λ r. ⌜ r ≡ referenceAt (now (s .entry)) at ⌝ }
 {
     if REFERENCE_END <= length_from(s, at) {
         return reference_within(s, at);
     }
-    reference_cut_short(s, at)
+    reference_within(&padded(s, at), 0)
 }

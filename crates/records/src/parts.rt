@@ -1,12 +1,14 @@
 // What the body of a record is made of: points, boxes, flags and sources.
 ghost use mathlib.Core.Path.{_≡_};
-ghost use Prim.Native.Nat.{_+_, _-_, _*_, _<_, _≤_};
+ghost use Prim.Native.Nat.{ℕ, _+_, _-_, _*_, _<_, _≤_};
 ghost use lib.ListN.{length, drop};
-ghost use Rattle.records.specs.Format.{f};
+ghost use Rattle.fields.specs.Field.{uintAt};
+ghost use Rattle.records.specs.Format.{f, reference, endOf};
 ghost use Rattle.records.specs.Records.{dvec2At, worldBBoxAt, boundsAt, bit, sourceOf};
 ghost use Rattle.records.specs.Sources.{label};
 use crate::PreparedSource;
 use crate::format::FLOAT;
+use crate::format::REFERENCE_END;
 use geometry::bbox::Bounds;
 use geometry::bbox::WorldBBox;
 use geometry::placement::DVec2;
@@ -32,6 +34,16 @@ pub fn from(s: &[u8], at: usize) -> &[u8]
     &s[end..]
 }
 
+// The bytes from an offset on, at most as many as the longest record has, and zeros after them.
+pub fn padded(s: &[u8], at: usize) -> [u8; REFERENCE_END]
+    requires { ⌜ length (now s) - at ≤ endOf reference ⌝ }
+    ensures { λ r. ⌜ ((j k : ℕ) → uintAt k r j ≡ uintAt k (now (s .entry)) (at + j)) ⌝ }
+{
+    let mut out = [0; REFERENCE_END];
+    bytes::copy(from(s, at), &mut out);
+    out
+}
+
 pub fn dvec2_within(s: &[u8], at: usize) -> DVec2
     requires { ⌜ at + 2 * f ≤ length (now s) ⌝ }
     ensures { λ r. ⌜ r ≡ dvec2At (now (s .entry)) at ⌝ }
@@ -39,15 +51,6 @@ pub fn dvec2_within(s: &[u8], at: usize) -> DVec2
     DVec2 {
         x: fields::f64_within(s, at),
         y: fields::f64_within(s, at + FLOAT),
-    }
-}
-
-pub fn dvec2_at(s: &[u8], at: usize) -> DVec2
-    ensures { λ r. ⌜ r ≡ dvec2At (now (s .entry)) at ⌝ }
-{
-    DVec2 {
-        x: fields::f64_at(s, at),
-        y: fields::f64_at(from(s, at), 8),
     }
 }
 
@@ -63,18 +66,6 @@ pub fn world_bbox_within(s: &[u8], at: usize) -> WorldBBox
     }
 }
 
-pub fn world_bbox_at(s: &[u8], at: usize) -> WorldBBox
-    ensures { λ r. ⌜ r ≡ worldBBoxAt (now (s .entry)) at ⌝ }
-{
-    let part = from(s, at);
-    WorldBBox {
-        min_x: fields::f64_at(s, at),
-        min_y: fields::f64_at(part, 8),
-        max_x: fields::f64_at(part, 16),
-        max_y: fields::f64_at(part, 24),
-    }
-}
-
 // The box at an offset, if it is present.
 pub fn bounds_within(s: &[u8], at: usize, present: bool) -> Bounds
     requires { ⌜ at + 4 * f ≤ length (now s) ⌝ }
@@ -82,16 +73,6 @@ pub fn bounds_within(s: &[u8], at: usize, present: bool) -> Bounds
 {
     if present {
         let bbox = world_bbox_within(s, at);
-        return Bounds::Box(bbox.min_x, bbox.min_y, bbox.max_x, bbox.max_y);
-    }
-    Bounds::Absent
-}
-
-pub fn bounds_at(s: &[u8], at: usize, present: bool) -> Bounds
-    ensures { λ r. ⌜ r ≡ boundsAt (now (s .entry)) at present ⌝ }
-{
-    if present {
-        let bbox = world_bbox_at(s, at);
         return Bounds::Box(bbox.min_x, bbox.min_y, bbox.max_x, bbox.max_y);
     }
     Bounds::Absent
