@@ -1,3 +1,4 @@
 -- What the two conversions' proofs cite.
 mod Counting
 mod Narrowing
+mod Normals

@@ -37,7 +37,7 @@ pub significand-to-odd : (a s x l u w : ℕ) → w ≡ l + u → RoundsToOdd (a 
 significand-to-odd a s x l u w e = inl (ap (λ (y : ℕ). a * 2 ^ s * (2 ^ y * 2 ^ x)) e ∙ simp (pow-add, mul-assoc, mul-comm, mul-left-comm))
 
 -- ---- a narrowed float
-abbrev sign : ℕ → ℕ
+abbrev pub sign : ℕ → ℕ
 sign n = n / 2 ^ 63 * 2 ^ 31 % 2 ^ 64
 
 module _ (n : ℕ) (h : n < 2 ^ 64) where

@@ -23,12 +23,12 @@ pub significand-zero : (n : ℕ) → exponentFieldOf n ≡ 0 → bitAnd n (2 ^ 5
 unfolding significandOf
 significand-zero n e = and-mask n 52 ∙ sym (ap (λ (x : ℕ). cond (eqb x 0) (n % 2 ^ 52) (2 ^ 52 + n % 2 ^ 52)) e)
 
-pub significand-more : (n : ℕ) → (exponentFieldOf n ≡ 0 → ⊥) → bitOr (bitAnd n (2 ^ 52 - 1)) (2 ^ 52) ≡ significandOf n
+pub significand-normal : (n : ℕ) → (exponentFieldOf n ≡ 0 → ⊥) → 2 ^ 52 + n % 2 ^ 52 ≡ significandOf n
 unfolding significandOf
-significand-more n h =
-    ap (λ (x : ℕ). bitOr x (2 ^ 52)) (and-mask n 52)
-    ∙ or-shifted-r 1 52 (n % 2 ^ 52) (mod-lt n (pow-pos 52))
-    ∙ sym (cond-no (eqb (exponentFieldOf n) 0) (n % 2 ^ 52) (2 ^ 52 + n % 2 ^ 52) (not-T (eqb (exponentFieldOf n) 0) (λ t. h (eqb→eq (exponentFieldOf n) 0 t))))
+significand-normal n h = sym (cond-no (eqb (exponentFieldOf n) 0) (n % 2 ^ 52) (2 ^ 52 + n % 2 ^ 52) (not-T (eqb (exponentFieldOf n) 0) (λ t. h (eqb→eq (exponentFieldOf n) 0 t))))
+
+pub significand-more : (n : ℕ) → (exponentFieldOf n ≡ 0 → ⊥) → bitOr (bitAnd n (2 ^ 52 - 1)) (2 ^ 52) ≡ significandOf n
+significand-more n h = ap (λ (x : ℕ). bitOr x (2 ^ 52)) (and-mask n 52) ∙ or-shifted-r 1 52 (n % 2 ^ 52) (mod-lt n (pow-pos 52)) ∙ significand-normal n h
 
 pub significand-lt : (n : ℕ) → significandOf n < 2 ^ 53
 unfolding significandOf
