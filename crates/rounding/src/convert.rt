@@ -15,12 +15,12 @@ use crate::decode::significand_of;
 use crate::nearest::leading_zeros;
 use crate::nearest::pack;
 
-// The count n as the nearest f32.
+// The count n as the nearest f32. One of 32 digits is left to std, which has the machine convert it.
 pub fn u64_to_f32(n: u64) -> f32
     ensures { λ r. ⌜ r ≡ ofInt binary32 (pos n) ⌝ }
 {
-    if n == 0 {
-        return 0.0;
+    if n < 0x1_0000_0000 {
+        return std::num::nearest_u32_to_f32(n as u32);
     }
     let s = leading_zeros(n);
     f32::from_bits(pack(n << s, 149, s, 24, 255) as u32)

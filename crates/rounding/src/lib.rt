@@ -4,7 +4,8 @@
 // it lacks stands in specs/ (`Narrow`).
 //
 // The work is done on the sign, exponent and fraction fields of the u64 and u32 patterns, by shifts and
-// masks, and rounded by one step that serves both widths.
+// masks, and rounded by one step that serves both widths. Normal f32s and counts below 2^32 have a
+// shorter way.
 
 // f64 to f32, and u64 to f32: to nearest, ties to even.
 mod convert;

@@ -6,11 +6,11 @@ use mathlib.Core.Bool.{false}
 use Prim.Native.Nat.{ℕ, _+_, _*_, _%_, _^_}
 use native.Mathlib.Nat.{mul-assoc, mul-comm, one-mul, zero-lt-suc, zero-add, mod-eq-of-lt}
 use lib.IntN.{pos}
-use lib.Ieee.{Float, binary32, round, ofInt, ofBits}
+use lib.Ieee.{Float, binary32, round, ofInt}
 use Rattle.rounding.specs.RoundToOdd.{RoundsToOdd}
 use Rattle.rounding.specs.Packed.{packed, Encodes}
 use Rattle.rounding.proofs.nearest.Normalising.{IsLeadingZeros}
-use Rattle.rounding.proofs.nearest.Theorem.{encodes-rounded, encodes-zero}
+use Rattle.rounding.proofs.nearest.Theorem.{encodes-rounded}
 
 pub count-to-odd : (a s l : ℕ) → RoundsToOdd (a * 2 ^ s) (a * 2 ^ l * 2 ^ s) (1 * 2 ^ l)
 count-to-odd a s l = inl (ap (λ (y : ℕ). a * 2 ^ s * y) (one-mul (2 ^ l)) ∙ simp (mul-assoc, mul-comm))
@@ -18,9 +18,6 @@ count-to-odd a s l = inl (ap (λ (y : ℕ). a * 2 ^ s * y) (one-mul (2 ^ l)) ∙
 pub ofInt-is : (n : ℕ) → ofInt binary32 (pos n) ≡ round binary32 false n 1
 unfolding ofInt
 ofInt-is n = refl
-
-pub count-zero : (n : ℕ) → n ≡ 0 → ofBits binary32 0 ≡ ofInt binary32 (pos n)
-count-zero n e = encodes-zero binary32 false n 1 e (zero-lt-suc 0) .reads ∙ sym (ofInt-is n)
 
 pub count-encodes : (n s r : ℕ) → IsLeadingZeros n s → r ≡ packed 24 255 (n * 2 ^ s % 2 ^ 64) 149 s → Encodes binary32 r (ofInt binary32 (pos n))
 count-encodes n s r t e =

@@ -3,15 +3,12 @@ use lib.Ieee.{binary32, ofInt}
 use lib.IntN.{pos}
 use borrow.Author.Needs.{needs}
 use Rattle.rounding.specs.Packed.{Encodes}
-use Rattle.rounding.proofs.convert.Counting.{count-zero, count-encodes}
+use Rattle.rounding.proofs.convert.Counting.{count-encodes}
 use Rattle.rounding.proofs.convert.u64_to_f32.Statement.{statement}
 use Rattle.rounding.proofs.convert.u64_to_f32.Tie as tie
 
 written : (c : tie.After-pack) → Encodes binary32 (c .pack .result) (ofInt binary32 (pos (c .before .before .before .args .n)))
 written c = count-encodes (c .before .before .before .args .n) (c .before .leading-zeros .result) (c .pack .result) (c .before .leading-zeros .ensures) (c .pack .ensures)
-
-returns : tie.Need-returns
-returns c = count-zero (c .before .args .n) (c .if1 .taken)
 
 cast-result : tie.Need-cast-result
 cast-result c = record { fits = written c .width }
@@ -26,7 +23,9 @@ pub u64-to-f32-spec : {M : Type 1} → statement M
 u64-to-f32-spec =
     tie.close
     (tie.spec
-    returns
+    (λ c. search needs)
+    (λ c κs. search needs)
+    (λ c. search needs)
     (λ c κs. search needs)
     (λ c. search needs)
     (λ c κs. search needs)
