@@ -46,6 +46,9 @@ pub fn f64_max(a: f64, b: f64) -> f64
 pub fn f64_abs(x: f64) -> f64
     ensures { λ r. ⌜ r ≡ abs x ⌝ }
 {
+    if x > 0.0 {
+        return x;
+    }
     if x != x {
         return x;
     }

@@ -1,16 +1,25 @@
 -- `floats::order::f64_abs` meets its contract. Assumes nothing.
 use mathlib.Core.Path.{_≡_, refl, sym, ap, _∙_, subst}
-use mathlib.Core.Bool.{Bool, not}
+use mathlib.Core.Bool.{Bool, true, false, not, false≢true}
 use Prim.Native.Nat.{_-_, _^_}
 use lib.Bits.{bitAnd, and-mask}
 use lib.Dec.{T}
-use lib.Ieee.{Float, nan, inf, fin, binary64, fits, isNan, ofBits, toBits}
+use lib.IntN.{pos}
+use lib.Ieee.{Float, nan, inf, fin, binary64, fits, isNan, ofBits, toBits, lt}
 use lib.Ieee.Bits.{ofBits-toBits, nanBits-is}
 use Rattle.floats.specs.Order.{abs}
 use Rattle.floats.proofs.Nans.{nan-of-differs, number-of-equal}
 use Rattle.floats.proofs.order.SignBit.{abs-of-pattern}
 use Rattle.floats.proofs.order.f64_abs.Statement.{statement}
 use Rattle.floats.proofs.order.f64_abs.Tie as tie
+
+abs-positive : (x : Float) → lt (fin false 0 (pos 0)) x ≡ true → x ≡ abs x
+unfolding lt abs
+abs-positive nan h = absurd (false≢true h)
+abs-positive (inf true) h = absurd (false≢true h)
+abs-positive (inf false) h = refl
+abs-positive (fin true m e) h = absurd (false≢true h)
+abs-positive (fin false m e) h = refl
 
 abs-nan : (x : Float) → x ≡ nan → x ≡ abs x
 unfolding abs
@@ -31,18 +40,22 @@ held : (s : tie.Start) → T (fits binary64 (s .args .x))
 held s = subst T (sym (s .good .0 .1)) tt
 
 returns : tie.Need-returns
-returns c = abs-nan (c .before .args .x) (nan-of-differs (c .before .args .x) (c .if1 .taken))
+unfolding ofBits
+returns c = abs-positive (c .before .args .x) (c .if1 .taken)
+
+returns-2 : tie.Need-returns-2
+returns-2 c = abs-nan (c .before .before .args .x) (nan-of-differs (c .before .before .args .x) (c .if2 .taken))
 
 float-to-bits-result : tie.Need-float-to-bits-result
-float-to-bits-result c = number-of-equal (c .before .args .x) (c .if1 .left)
+float-to-bits-result c = number-of-equal (c .before .before .args .x) (c .if2 .left)
 
 float-from-bits-result : tie.Need-float-from-bits-result
 float-from-bits-result c =
-    let x = c .before .args .x in
-    subst (λ (b : Bool). T (not b)) (sym (nanBits-is binary64 _ ∙ ap isNan (masked x (held (c .before))) ∙ abs-number x)) (number-of-equal x (c .if1 .left))
+    let x = c .before .before .args .x in
+    subst (λ (b : Bool). T (not b)) (sym (nanBits-is binary64 _ ∙ ap isNan (masked x (held (c .before .before))) ∙ abs-number x)) (number-of-equal x (c .if2 .left))
 
-returns-2 : tie.Need-returns-2
-returns-2 c = masked (c .before .args .x) (held (c .before))
+returns-3 : tie.Need-returns-3
+returns-3 c = masked (c .before .before .args .x) (held (c .before .before))
 
 pub f64-abs-spec : {M : Type 1} → statement M
-f64-abs-spec = tie.close (tie.spec returns float-to-bits-result float-from-bits-result returns-2)
+f64-abs-spec = tie.close (tie.spec returns returns-2 float-to-bits-result float-from-bits-result returns-3)
