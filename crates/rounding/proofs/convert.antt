@@ -2,3 +2,4 @@
 mod Counting
 mod Narrowing
 mod Normals
+mod Range

@@ -17,4 +17,6 @@ pub mod decode;
 pub mod nearest;
 
 pub use convert::f64_to_f32;
+pub use convert::narrow_normal;
+pub use convert::narrows_to_normal;
 pub use convert::u64_to_f32;

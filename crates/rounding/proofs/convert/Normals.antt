@@ -1,11 +1,11 @@
 -- An f64 as a normal f32: half a unit less one and the even bit added, and one shift, give what `packed` gives.
 -- Assumes nothing.
-use mathlib.Core.Path.{_≡_, refl, sym, ap, _∙_}
+use mathlib.Core.Path.{_≡_, refl, sym, ap, _∙_, subst}
 use mathlib.Core.Logic.{inl, inr}
 use Prim.Native.Nat.{ℕ, suc, _+_, _-_, _*_, _/_, _%_, _^_, _≤_, _<_, min, max, Ordering}
-use native.Mathlib.Nat.{le-trans, le-of-eq, min-eq-left, mod-eq-of-lt, mod-lt, mul-assoc}
+use native.Mathlib.Nat.{min-eq-left, mod-eq-of-lt, mod-lt, mul-assoc}
 use native.Mathlib.Omega.{arith}
-use lib.Bits.{bitAnd, bitOr, and-mask}
+use lib.Bits.{bitAnd, bitOr, and-mask, or-zero-l}
 use lib.Pow.{pow-pos}
 use lib.Ieee.{binary32, binary64, ofBits, nearest}
 use lib.Ieee.Nearest.{closest, closest-same}
@@ -74,29 +74,26 @@ module _ (x t : ℕ) (lo : 897 ≤ x) (hi : x ≤ 1150) (T : t < 2 ^ 52) where
       up-to-infinity : (x t : ℕ) → x ≤ 1150 → t < 2 ^ 52 → (x - 897) * 2 ^ 23 + summed (2 ^ 52 + t) ≤ 255 * 2 ^ 23
       up-to-infinity x t l k = omega arith
 
--- ---- the pattern n
-module _ (n : ℕ) (h : n < 2 ^ 64) (lo : 897 ≤ exponentFieldOf n) (hi : exponentFieldOf n ≤ 1150) where
-  abbrev magnitude : ℕ
-  magnitude = bitAnd n (2 ^ 63 - 1)
+-- ---- the pattern n of a positive f64
+abbrev rebiased : ℕ → ℕ
+rebiased n = n - 896 * 2 ^ 52 + (2 ^ 28 - 1) + bitAnd (n / 2 ^ 29) 1
 
-  pub magnitude-ge : 896 * 2 ^ 52 ≤ magnitude
+abbrev pub NarrowsTo : ℕ → Type 0
+NarrowsTo n = Encodes binary32 (rebiased n / 2 ^ 29) (narrow (ofBits binary64 n))
+
+module _ (n : ℕ) (h : n < 2 ^ 63) (lo : 897 ≤ exponentFieldOf n) (hi : exponentFieldOf n ≤ 1150) where
+  pub pattern-ge : 896 * 2 ^ 52 ≤ n
   unfolding exponentFieldOf
-  magnitude-ge = le-trans (least n lo) (le-of-eq (sym (and-mask n 63)))
-    where
-      least : (n : ℕ) → 897 ≤ n / 2 ^ 52 % 2 ^ 11 → 896 * 2 ^ 52 ≤ n % 2 ^ 63
-      least n l = omega arith
+  pattern-ge = omega arith
 
-  abbrev rebiased : ℕ
-  rebiased = magnitude - 896 * 2 ^ 52 + (2 ^ 28 - 1) + bitAnd (n / 2 ^ 29) 1
-
-  rounded-is : rebiased / 2 ^ 29 ≡ (exponentFieldOf n - 897) * 2 ^ 23 + summed (2 ^ 52 + n % 2 ^ 52)
+  rounded-is : rebiased n / 2 ^ 29 ≡ (exponentFieldOf n - 897) * 2 ^ 23 + summed (2 ^ 52 + n % 2 ^ 52)
   unfolding exponentFieldOf
   rounded-is =
-      (λ i. ((and-mask n 63 ∙ fields n) i - 896 * 2 ^ 52 + (2 ^ 28 - 1) + (and-mask (n / 2 ^ 29) 1 ∙ even-bit n) i) / 2 ^ 29)
+      (λ i. (fields n h i - 896 * 2 ^ 52 + (2 ^ 28 - 1) + (and-mask (n / 2 ^ 29) 1 ∙ even-bit n) i) / 2 ^ 29)
       ∙ rebias (n / 2 ^ 52 % 2 ^ 11) (n % 2 ^ 52) ((2 ^ 52 + n % 2 ^ 52) / 2 ^ 29 % 2) lo
     where
-      fields : (n : ℕ) → n % 2 ^ 63 ≡ n / 2 ^ 52 % 2 ^ 11 * 2 ^ 52 + n % 2 ^ 52
-      fields n = omega arith
+      fields : (n : ℕ) → n < 2 ^ 63 → n ≡ n / 2 ^ 52 % 2 ^ 11 * 2 ^ 52 + n % 2 ^ 52
+      fields n h = omega arith
 
       even-bit : (n : ℕ) → n / 2 ^ 29 % 2 ≡ (2 ^ 52 + n % 2 ^ 52) / 2 ^ 29 % 2
       even-bit n = omega arith
@@ -104,16 +101,23 @@ module _ (n : ℕ) (h : n < 2 ^ 64) (lo : 897 ≤ exponentFieldOf n) (hi : expon
       rebias : (x t b : ℕ) → 897 ≤ x → (x * 2 ^ 52 + t - 896 * 2 ^ 52 + (2 ^ 28 - 1) + b) / 2 ^ 29 ≡ (x - 897) * 2 ^ 23 + (2 ^ 52 + t + (2 ^ 28 - 1) + b) / 2 ^ 29
       rebias x t b l = omega arith
 
-  pub narrow-normal-encodes : Encodes binary32 (bitOr (sign n) (rebiased / 2 ^ 29)) (narrow (ofBits binary64 n))
+  pub narrow-normal-encodes : NarrowsTo n
   unfolding exponentOf
   narrow-normal-encodes =
       let x = exponentFieldOf n in
       let t = n % 2 ^ 52 in
       let T = mod-lt n (pow-pos 52) in
       let z = normalised x t lo hi T in
-      narrow-encodes n h (finite x hi) (2 ^ 52 + t) (x - 1) 11 (rebiased / 2 ^ 29) (significand-normal n (normal x lo)) refl z
-      (rounded-is ∙ sym (ap (λ (y : ℕ). packed 24 255 y (x - 1) (11 + 925)) (mod-eq-of-lt (z .2)) ∙ normal-packed x t lo hi T))
+      subst (λ (r : ℕ). Encodes binary32 r (narrow (ofBits binary64 n))) (ap (λ (s : ℕ). bitOr s (rebiased n / 2 ^ 29)) (no-sign n h) ∙ or-zero-l (rebiased n / 2 ^ 29))
+      (narrow-encodes n (wider n h) (finite x hi) (2 ^ 52 + t) (x - 1) 11 (rebiased n / 2 ^ 29) (significand-normal n (normal x lo)) refl z
+      (rounded-is ∙ sym (ap (λ (y : ℕ). packed 24 255 y (x - 1) (11 + 925)) (mod-eq-of-lt (z .2)) ∙ normal-packed x t lo hi T)))
     where
+      no-sign : (n : ℕ) → n < 2 ^ 63 → sign n ≡ 0
+      no-sign n h = omega arith
+
+      wider : (n : ℕ) → n < 2 ^ 63 → n < 2 ^ 64
+      wider n h = omega arith
+
       finite : (x : ℕ) → x ≤ 1150 → x ≡ 2047 → ⊥
       finite x h e = omega arith
 
