@@ -46,9 +46,12 @@ onePx = fin false 1 (pos 0)
 abbrev pub size : Float → Float → ScreenSize
 size w h = record { width = w; height = h }
 
--- one side: ((max - min).abs() * zoom) as f32
+-- one side: ((max - min).abs() * zoom) as f32, and before it is narrowed
+abbrev pub wideSide : Float → Float → Float → Float
+wideSide min max zoom = abs (max ⊖ min) ⊗ zoom
+
 unfoldable pub side : Float → Float → Float → Float
-side min max zoom = narrow (abs (max ⊖ min) ⊗ zoom)
+side min max zoom = narrow (wideSide min max zoom)
 
 unfoldable pub screenSize : WorldBBox → Float → ScreenSize
 screenSize b zoom = size (side (b .«min_x») (b .«max_x») zoom) (side (b .«min_y») (b .«max_y») zoom)

@@ -2,7 +2,7 @@
 // `reference_screen_size`, the tests of `visit_reference` and `push_geometry` in bevy_scene.rs, and drawable.rs's `should_collapse_reference`.
 // Every function is total, and equals a definition of specs/ over the values of IEEE 754, NaN and infinities included.
 ghost use mathlib.Core.Path.{_≡_};
-ghost use Rattle.screen.specs.Screen.{side, screenSize, referenceScreenSize, isSubpixel, averageAreaWithin, isDense, isDenseBatch, collapseTest, collapses};
+ghost use Rattle.screen.specs.Screen.{wideSide, screenSize, referenceScreenSize, isSubpixel, averageAreaWithin, isDense, isDenseBatch, collapseTest, collapses};
 use geometry::bbox::WorldBBox;
 
 const REF_LOAD_THRESHOLD_PX: f32 = 24.0;
@@ -24,19 +24,30 @@ pub struct ScreenSize {
     pub height: f32,
 }
 
-// One side: the difference and the product in f64, then narrowed.
-fn side(min: f64, max: f64, zoom: f64) -> f32
-    ensures { λ r. ⌜ r ≡ side min max zoom ⌝ }
+// One side before it is narrowed: the difference and the product in f64.
+fn side(min: f64, max: f64, zoom: f64) -> f64
+    ensures { λ r. ⌜ r ≡ wideSide min max zoom ⌝ }
 {
-    rounding::f64_to_f32(floats::order::f64_abs(max - min) * zoom)
+    floats::order::f64_abs(max - min) * zoom
 }
 
+// The short form of narrowing is inlined where both sides take it; else the general function is called.
 pub fn screen_size(bbox: WorldBBox, zoom: f64) -> ScreenSize
     ensures { λ r. ⌜ r ≡ screenSize bbox zoom ⌝ }
 {
+    let width = side(bbox.min_x, bbox.max_x, zoom);
+    let height = side(bbox.min_y, bbox.max_y, zoom);
+    if rounding::narrows_to_normal(width) {
+        if rounding::narrows_to_normal(height) {
+            return ScreenSize {
+                width: rounding::narrow_normal(width),
+                height: rounding::narrow_normal(height),
+            };
+        }
+    }
     ScreenSize {
-        width: side(bbox.min_x, bbox.max_x, zoom),
-        height: side(bbox.min_y, bbox.max_y, zoom),
+        width: rounding::f64_to_f32(width),
+        height: rounding::f64_to_f32(height),
     }
 }
 
