@@ -13,7 +13,7 @@ use std::time::{Duration, Instant};
 
 use crate::answer::Lent;
 use crate::events::Settings;
-use crate::generator::{large::LARGE, large::Large, make_large};
+use crate::generator::{large::LARGE, large::Large, make_large, raced::RACED};
 use crate::harness::Subject;
 use crate::judge::call::{MAX_DEPTH, named_places};
 use crate::judge::program::split;
@@ -32,6 +32,10 @@ const WALKING_PATIENCE: Duration = Duration::from_secs(5);
 const HALVED: [(&str, u64); 4] = [("city", 20_000), ("city", 110_000), ("street", 40_000), ("street", 130_000)];
 /// The cities that the bound on the plan alone must have.
 const CITIES: [u64; 3] = [2_000, 20_000, 110_000];
+/// Milliseconds of the Rust's plan from which on the bounds against it are kept: below, the clock's steps count.
+const TIMED: f64 = 0.1;
+/// Bytes of a sheet from which on reading and planning together are bounded.
+const LONG: usize = 100_000;
 
 /// What is measured, in the order of the table.
 const PARTS: [&str; 7] =
@@ -104,20 +108,23 @@ impl<'a> Race<'a> {
     }
 
     /// The walks are not counted against the patience: else a slow one would leave a single round with a finder.
-    fn rounds(&mut self, most: usize) {
+    fn rounds(&mut self, most: usize, walking: bool) {
         let start = Instant::now();
         for round in 0..most {
             let walked = Duration::from_secs_f64(self.times[4].iter().sum::<f64>() / 1e3);
             if round > 0 && start.elapsed().saturating_sub(walked) > PATIENCE {
                 break;
             }
-            self.round(walked < WALKING_PATIENCE);
+            self.round(walking && walked < WALKING_PATIENCE);
         }
     }
 
-    /// The least and the median of one measurement.
+    /// The least and the median of one measurement, NaN where it was not made.
     fn figures(&self, part: usize) -> (f64, f64) {
         let mut times = self.times[part].clone();
+        if times.is_empty() {
+            return (f64::NAN, f64::NAN);
+        }
         times.sort_by(f64::total_cmp);
         (times[0], (times[(times.len() - 1) / 2] + times[times.len() / 2]) / 2.0)
     }
@@ -130,15 +137,19 @@ struct Row {
     line: String,
     /// Our whole call with a finder, over the Rust's build and plan.
     share: f64,
-    /// Our plan alone, without questions and check.
+    /// Our plan alone, without questions and check, and the Rust's.
     plan: f64,
+    rust: f64,
+    /// Questions and plan, over the Rust's build and plan, for a sheet of so many bytes.
+    checked: f64,
+    bytes: usize,
 }
 
-fn row(large: &Large, input: &[u8], most: usize) -> Option<Row> {
+fn row(large: &Large, input: &[u8], most: usize, walking: bool) -> Option<Row> {
     let mut race = Race::new(input)?;
-    race.rounds(most);
+    race.rounds(most, walking);
     let figures: [(f64, f64); 7] = std::array::from_fn(|part| race.figures(part));
-    let [_, asked, _, found, walked, build, rust] = figures;
+    let [questions, asked, _, found, walked, build, rust] = figures;
     let plan = ((found.0 - asked.0).max(0.0), (found.1 - asked.1).max(0.0));
     let share = found.0 / (build.0 + rust.0);
     let mut line = format!(
@@ -154,9 +165,50 @@ fn row(large: &Large, input: &[u8], most: usize) -> Option<Row> {
         line += &format!(" {least:.3} / {median:.3} |");
     }
     // A plan that is lost in the noise of the check has no ratio.
-    let ratio = if plan.0 == 0.0 { "-".to_string() } else { format!("{:.1}", plan.0 / rust.0) };
-    line += &format!(" {ratio} | {share:.2} | {:.1} |", walked.0 / (build.0 + rust.0));
-    Some(Row { name: large.name, seed: large.seed, line, share, plan: plan.0 })
+    let ratio = if plan.0 == 0.0 { "-".to_string() } else { format!("{:.2}", plan.0 / rust.0) };
+    let checked = (questions.0 + plan.0) / (build.0 + rust.0);
+    line += &format!(" {ratio} | {checked:.2} | {share:.2} | {:.1} |", walked.0 / (build.0 + rust.0));
+    let (plan, rust, bytes) = (plan.0, rust.0, race.bytes.len());
+    Some(Row { name: large.name, seed: large.seed, line, share, plan, rust, checked, bytes })
+}
+
+/// The bounds against the Rust's plan, over all rows on which that takes long enough, and against its build and plan, over
+/// all long sheets. On a slanted sheet the fused operation, which the processor has, is done by shifts and masks.
+fn pace_bounds(rows: &[Row]) -> Vec<(String, bool)> {
+    let timed: Vec<&Row> = rows.iter().filter(|row| row.rust > TIMED).collect();
+    let ratio = |row: &&Row| row.plan / row.rust;
+    let mut bounds = Vec::new();
+    for (slanted, most) in [(false, 1.5), (true, 2.5)] {
+        let rows = timed.iter().filter(|row| row.name.starts_with("slanted") == slanted);
+        if let Some(worst) = rows.clone().max_by(|a, b| ratio(a).total_cmp(&ratio(b))) {
+            let kind = if slanted { "slanted sheets" } else { "sheets" };
+            let text = format!(
+                "{} {kind} that the Rust plans in over {TIMED} ms: the plan at most {most} of the Rust's: {:.2}, {} {}",
+                rows.count(),
+                ratio(worst),
+                worst.name,
+                worst.seed
+            );
+            bounds.push((text, ratio(worst) <= most));
+        }
+    }
+    if !timed.is_empty() {
+        let ahead = timed.iter().filter(|row| ratio(row) <= 1.0).count();
+        let text = format!("the plan at most 1.0 of the Rust's on half of these: {ahead} of {}", timed.len());
+        bounds.push((text, 2 * ahead >= timed.len()));
+    }
+    let long = rows.iter().filter(|row| row.bytes > LONG);
+    if let Some(worst) = long.clone().max_by(|a, b| a.checked.total_cmp(&b.checked)) {
+        let text = format!(
+            "{} sheets above {LONG} bytes: questions and plan below the Rust's build + plan: {:.2}, {} {}",
+            long.count(),
+            worst.checked,
+            worst.name,
+            worst.seed
+        );
+        bounds.push((text, worst.checked < 1.0));
+    }
+    bounds
 }
 
 /// The bounds that the finder must keep, of those sheets whose name begins so: what each says, what was measured, and
@@ -172,6 +224,7 @@ fn bounds(rows: &[Row], name: &str) -> Vec<(String, bool)> {
     if "city".starts_with(name) {
         bounds.push(cities_bound(rows));
     }
+    bounds.extend(pace_bounds(rows));
     bounds
 }
 
@@ -187,18 +240,20 @@ fn cities_bound(rows: &[Row]) -> (String, bool) {
     (text, absent.is_empty() && most <= 2.0 * least)
 }
 
-/// The table in Markdown: five large sheets, then every limit case that is planned, of all those whose name begins so.
-/// Whether there is a row, and every bound holds.
+/// The table in Markdown: five large sheets, those that are only raced and never without a finder, then every limit case that
+/// is planned, of all those whose name begins so. Whether there is a row, and every bound holds.
 pub fn run(most: usize, name: &str) -> bool {
     println!("Milliseconds, least / median of the rounds (with a finder and without). Ratios are of the least times.\n");
     println!(
-        "| sheet | bytes | tape | rounds | {} | plan | plan / Rust plan | with finder / build + plan | without / build + plan |",
+        "| sheet | bytes | tape | rounds | {} | plan | plan / Rust plan | questions + plan / build + plan | with finder / build + plan | without / build + plan |",
         PARTS.join(" | ")
     );
-    println!("|{}", "---|".repeat(PARTS.len() + 8));
+    println!("|{}", "---|".repeat(PARTS.len() + 9));
     let mut rows = Vec::new();
-    for large in SHEETS.iter().chain(LARGE).filter(|large| large.name.starts_with(name)) {
-        if let Some(row) = row(large, &make_large(large), most) {
+    let walked = |large| (large, true);
+    let sheets = SHEETS.iter().map(walked).chain(RACED.iter().map(|large| (large, false))).chain(LARGE.iter().map(walked));
+    for (large, walking) in sheets.filter(|(large, _)| large.name.starts_with(name)) {
+        if let Some(row) = row(large, &make_large(large), most, walking) {
             println!("{}", row.line);
             rows.push(row);
         }

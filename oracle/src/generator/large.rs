@@ -101,11 +101,11 @@ pub const LARGE: &[Large] = &[
 
 const WIDE: [f64; 4] = [-1e9, -1e9, 1e9, 1e9];
 
-fn wide(depth: u32) -> Query {
+pub fn wide(depth: u32) -> Query {
     Query { root: 0, depth, view: WIDE, zoom: 1.0, hidden: Vec::new() }
 }
 
-fn finish(mut sheet: Sheet, query: Query, rng: &mut Rng) -> Vec<u8> {
+pub fn finish(mut sheet: Sheet, query: Query, rng: &mut Rng) -> Vec<u8> {
     grow_true_boxes(&mut sheet);
     input(&query, &sheet, rng)
 }
@@ -337,8 +337,13 @@ fn descent(rng: &mut Rng, levels: u64) -> Vec<u8> {
     finish(sheet, Query { zoom: 40.0, ..wide(32) }, rng)
 }
 
-/// A long row of houses, listed by the root and by a second cell, of which the view holds a part.
 pub fn street(rng: &mut Rng, count: u64) -> Vec<u8> {
+    let (sheet, query) = street_sheet(rng, count);
+    finish(sheet, query, rng)
+}
+
+/// A long row of houses, listed by the root and by a second cell, of which the view holds a part.
+pub fn street_sheet(rng: &mut Rng, count: u64) -> (Sheet, Query) {
     let mut sheet = Sheet::default();
     let text = sheet.text(1, 0, [5.0, 5.0]);
     let batch = sheet.batch(2, 0, 3, [0.0, 0.0, 80.0, 60.0]);
@@ -358,7 +363,7 @@ pub fn street(rng: &mut Rng, count: u64) -> Vec<u8> {
     let house = sheet.cell(2, None);
     (house.texts, house.batches) = (vec![text], vec![batch]);
     let view = [count as f64 * 48.0, 0.0, count as f64 * 52.0, 1000.0];
-    finish(sheet, Query { view, ..wide(4) }, rng)
+    (sheet, Query { view, ..wide(4) })
 }
 
 /// Streets of blocks of cells: `count` leaf records of each kind below three levels of grids.
