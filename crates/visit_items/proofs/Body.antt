@@ -11,7 +11,7 @@ use Rattle.plan_rules.specs.World.{Flow, go, halt, flow, each}
 use Rattle.plan_rules.specs.Visit as visit
 use Rattle.plan_rules.specs.OnTape.{Given, Output, VisitReference}
 use Rattle.visit_items.specs.declared.OpenCell.{OpenCell}
-use Rattle.visit_items.specs.Lists.{pushGeometries, pushTexts, pushNodes, visitReferences, visitLists}
+use Rattle.visit_items.specs.Lists.{cellGeometries, cellTexts, cellNodes, visitReferences, visitLists}
 
 flow-halts : (x : Bool) (v : Output) {f : Flow (List ℕ)} → flow x v ≡ f → not x ≡ true → f ≡ halt v
 flow-halts x v e h = sym e ∙ ap (λ (b : Bool). flow b v) (not-true x h)
@@ -23,17 +23,17 @@ module _ {f : Fixed} (g : Given f) (c : OpenCell) (r : CellRecord) (on : VisitRe
   abbrev body : Output
   body = visitLists g c r on w
 
-  module _ (x : Bool) (v : Output) (listed : flow x v ≡ pushGeometries g c r w) where
+  module _ (x : Bool) (v : Output) (listed : flow x v ≡ cellGeometries g c r w) where
     pub geometries-halt : not x ≡ true → visitReferences g c r on 0 v ≡ body
     unfolding visit.cellBody each
     geometries-halt h = rw (flow-halts x v listed h)
 
-    module _ (all : not x ≡ false) (x₁ : Bool) (v₁ : Output) (listed₁ : flow x₁ v₁ ≡ pushTexts g c r v) where
+    module _ (all : not x ≡ false) (x₁ : Bool) (v₁ : Output) (listed₁ : flow x₁ v₁ ≡ cellTexts g c r v) where
       pub texts-halt : not x₁ ≡ true → visitReferences g c r on 0 v₁ ≡ body
       unfolding visit.cellBody each
       texts-halt h = rw (flow-goes x v listed all, flow-halts x₁ v₁ listed₁ h)
 
-      module _ (all₁ : not x₁ ≡ false) (x₂ : Bool) (v₂ : Output) (listed₂ : flow x₂ v₂ ≡ pushNodes g c r v₁) where
+      module _ (all₁ : not x₁ ≡ false) (x₂ : Bool) (v₂ : Output) (listed₂ : flow x₂ v₂ ≡ cellNodes g c r v₁) where
         pub nodes-halt : not x₂ ≡ true → visitReferences g c r on 0 v₂ ≡ body
         unfolding visit.cellBody each
         nodes-halt h = rw (flow-goes x v listed all, flow-goes x₁ v₁ listed₁ all₁, flow-halts x₂ v₂ listed₂ h)

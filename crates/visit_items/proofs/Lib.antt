@@ -1,3 +1,4 @@
 -- Laws that the proofs about this crate's code cite. Assumes nothing.
-pub mod CellLoop  -- the loop over a list of a cell, once for batches, texts and nodes
-pub mod Body  -- the three loops one after the other
+pub mod NumberLoop  -- the loop over a list of numbers, once for batches, texts and nodes
+pub mod CellLists  -- a list of an open cell, likewise
+pub mod Body  -- the three lists one after the other

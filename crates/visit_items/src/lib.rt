@@ -1,7 +1,7 @@
 // The batches, texts and nodes of a cell in one call, so that the visit of a cell has one loop left: that over its references.
-use crate::lists::push_geometries;
-use crate::lists::push_nodes;
-use crate::lists::push_texts;
+use crate::cell::cell_geometries;
+use crate::cell::cell_nodes;
+use crate::cell::cell_texts;
 use geometry::bbox::Bounds;
 use geometry::placement::Placement;
 use plan_rules::Fixed;
@@ -9,9 +9,12 @@ use plan_rules::ScenePlan;
 use records::PreparedCell;
 ghost use Rattle.visit_items.specs.Lists.{LeavesReferences};
 
-mod lists; // the loop over each list
+mod lists; // the loops over numbers
+mod cell; // the lists of an open cell
 
 pub use lists::load_cell;
+pub use lists::push_geometries;
+pub use lists::push_texts;
 
 // A cell that is open: its number, where its record stands, the record, and where the cell is placed, with its box there.
 pub struct OpenCell {
@@ -39,7 +42,7 @@ pub fn push_items(
 ) -> Listed
     ensures { λ r. ⌜ LeavesReferences (sheet .entry) (finder .entry) fixed (hidden .entry) cell r (out .exit) plan (out .entry) ⌝ }
 {
-    let geometries = push_geometries(sheet, finder, fixed, hidden, out, plan, cell);
+    let geometries = cell_geometries(sheet, finder, fixed, hidden, out, plan, cell);
     let after_geometries = geometries.plan;
     if !geometries.whole {
         return Listed {
@@ -47,7 +50,7 @@ pub fn push_items(
             references: 0,
         };
     }
-    let texts = push_texts(sheet, finder, fixed, hidden, out, after_geometries, cell);
+    let texts = cell_texts(sheet, finder, fixed, hidden, out, after_geometries, cell);
     let after_texts = texts.plan;
     if !texts.whole {
         return Listed {
@@ -55,7 +58,7 @@ pub fn push_items(
             references: 0,
         };
     }
-    let nodes = push_nodes(sheet, finder, fixed, hidden, out, after_texts, cell);
+    let nodes = cell_nodes(sheet, finder, fixed, hidden, out, after_texts, cell);
     let after_nodes = nodes.plan;
     if !nodes.whole {
         return Listed {

@@ -1,7 +1,8 @@
-// The loops of `visit_cell` over the batches, texts and nodes of an open cell.
-// At an exhausted budget the cell's box is added, if it has one, and the visit is over.
+// The lists of numbers that a plan goes through: a cell's batches, texts and nodes, or the one number that a reference has for its source.
+// A push is called in one place, the loop over a list, so that it is compiled into the loop: the totals then stay in registers from number to number.
 use crate::OpenCell;
 use events::add_load_if_boxed;
+use geometry::placement::Placement;
 use limits::detail_budget_exhausted;
 use plan_rules::Fixed;
 use plan_rules::Reason;
@@ -10,9 +11,10 @@ use pushes::Visited;
 use pushes::push_geometry;
 use pushes::push_node;
 use pushes::push_text;
+ghost use Rattle.records.specs.Records.{cellGeometryAt, cellTextAt, cellNodeAt};
 ghost use Rattle.plan_rules.specs.declared.Reason.the-variants.{OtherLimit};
 ghost use Rattle.plan_rules.specs.OnTape.{given, Leaves, LeavesFlow, addLoadIfBoxed};
-ghost use Rattle.visit_items.specs.Lists.{opened, pushGeometries, pushTexts, pushNodes};
+ghost use Rattle.visit_items.specs.Lists.{pushGeometries, pushTexts, pushNodes};
 
 // A limit is met in the visit of a cell.
 pub fn load_cell(out: &mut [u8], plan: ScenePlan, cell: OpenCell) -> ScenePlan
@@ -22,6 +24,9 @@ pub fn load_cell(out: &mut [u8], plan: ScenePlan, cell: OpenCell) -> ScenePlan
     add_load_if_boxed(out, plan, Reason::OtherLimit, cell.number, bounds)
 }
 
+// Each of these three goes through `count` numbers: `first`, whatever the budget, then those after the first in a list of the cell's
+// record at `at`, while there is room. `false` where a limit stopped it.
+
 pub fn push_geometries(
     sheet: &[u8],
     finder: &[u32],
@@ -29,32 +34,28 @@ pub fn push_geometries(
     hidden: &[u32],
     out: &mut [u8],
     plan: ScenePlan,
-    cell: OpenCell,
+    first: u32,
+    at: usize,
+    count: u32,
+    transform: Placement,
 ) -> Visited
-    ensures { λ r. ⌜ LeavesFlow (r .whole) (r .plan) (out .exit) (pushGeometries (given fixed (sheet .entry) (finder .entry) (hidden .entry)) cell (opened (now (sheet .entry)) cell)) plan (out .entry) ⌝ }
+    ensures { λ r. ⌜ LeavesFlow (r .whole) (r .plan) (out .exit) (pushGeometries (given fixed (sheet .entry) (finder .entry) (hidden .entry)) (cellGeometryAt (now (sheet .entry)) at) transform count first) plan (out .entry) ⌝ }
 {
-    let count = cell.record.geometries;
     let mut next = plan;
+    let mut number = first;
     let mut i: u32 = 0;
     while i < count {
-        if detail_budget_exhausted(fixed, next) {
-            return Visited {
-                plan: load_cell(out, next, cell),
-                whole: false,
-            };
-        }
-        let number = records::cell_geometry_at(sheet, cell.at, i);
-        next = push_geometry(
-            sheet,
-            finder,
-            fixed,
-            hidden,
-            out,
-            next,
-            number,
-            cell.transform,
-        );
+        next = push_geometry(sheet, finder, fixed, hidden, out, next, number, transform);
         i += 1;
+        if i < count {
+            if detail_budget_exhausted(fixed, next) {
+                return Visited {
+                    plan: next,
+                    whole: false,
+                };
+            }
+            number = records::cell_geometry_at(sheet, at, i);
+        }
     }
     Visited {
         plan: next,
@@ -69,32 +70,28 @@ pub fn push_texts(
     hidden: &[u32],
     out: &mut [u8],
     plan: ScenePlan,
-    cell: OpenCell,
+    first: u32,
+    at: usize,
+    count: u32,
+    transform: Placement,
 ) -> Visited
-    ensures { λ r. ⌜ LeavesFlow (r .whole) (r .plan) (out .exit) (pushTexts (given fixed (sheet .entry) (finder .entry) (hidden .entry)) cell (opened (now (sheet .entry)) cell)) plan (out .entry) ⌝ }
+    ensures { λ r. ⌜ LeavesFlow (r .whole) (r .plan) (out .exit) (pushTexts (given fixed (sheet .entry) (finder .entry) (hidden .entry)) (cellTextAt (now (sheet .entry)) at) transform count first) plan (out .entry) ⌝ }
 {
-    let count = cell.record.texts;
     let mut next = plan;
+    let mut number = first;
     let mut i: u32 = 0;
     while i < count {
-        if detail_budget_exhausted(fixed, next) {
-            return Visited {
-                plan: load_cell(out, next, cell),
-                whole: false,
-            };
-        }
-        let number = records::cell_text_at(sheet, cell.at, i);
-        next = push_text(
-            sheet,
-            finder,
-            fixed,
-            hidden,
-            out,
-            next,
-            number,
-            cell.transform,
-        );
+        next = push_text(sheet, finder, fixed, hidden, out, next, number, transform);
         i += 1;
+        if i < count {
+            if detail_budget_exhausted(fixed, next) {
+                return Visited {
+                    plan: next,
+                    whole: false,
+                };
+            }
+            number = records::cell_text_at(sheet, at, i);
+        }
     }
     Visited {
         plan: next,
@@ -109,39 +106,35 @@ pub fn push_nodes(
     hidden: &[u32],
     out: &mut [u8],
     plan: ScenePlan,
-    cell: OpenCell,
+    first: u32,
+    at: usize,
+    count: u32,
+    transform: Placement,
 ) -> Visited
-    ensures { λ r. ⌜ LeavesFlow (r .whole) (r .plan) (out .exit) (pushNodes (given fixed (sheet .entry) (finder .entry) (hidden .entry)) cell (opened (now (sheet .entry)) cell)) plan (out .entry) ⌝ }
+    ensures { λ r. ⌜ LeavesFlow (r .whole) (r .plan) (out .exit) (pushNodes (given fixed (sheet .entry) (finder .entry) (hidden .entry)) (cellNodeAt (now (sheet .entry)) at) transform count first) plan (out .entry) ⌝ }
 {
-    let count = cell.record.nodes;
     let mut next = plan;
+    let mut number = first;
     let mut i: u32 = 0;
     while i < count {
-        if detail_budget_exhausted(fixed, next) {
-            return Visited {
-                plan: load_cell(out, next, cell),
-                whole: false,
-            };
-        }
-        let number = records::cell_node_at(sheet, cell.at, i);
-        let visited = push_node(
-            sheet,
-            finder,
-            fixed,
-            hidden,
-            out,
-            next,
-            number,
-            cell.transform,
-        );
+        let visited = push_node(sheet, finder, fixed, hidden, out, next, number, transform);
         next = visited.plan;
         if !visited.whole {
             return Visited {
-                plan: load_cell(out, next, cell),
+                plan: next,
                 whole: false,
             };
         }
         i += 1;
+        if i < count {
+            if detail_budget_exhausted(fixed, next) {
+                return Visited {
+                    plan: next,
+                    whole: false,
+                };
+            }
+            number = records::cell_node_at(sheet, at, i);
+        }
     }
     Visited {
         plan: next,

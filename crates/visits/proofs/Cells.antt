@@ -24,10 +24,11 @@ use Rattle.plan_rules.specs.declared.Reason.the-variants.{OtherLimit}
 use Rattle.plan_rules.specs.World.{detailBudgetExhausted, world, Flow, go, halt, setMark}
 use Rattle.plan_rules.specs.Scratch.{openPlace}
 use Rattle.plan_rules.specs.Visit as rules
-use Rattle.plan_rules.specs.OnTape.{Given, givenBytes, Output, query, addLoadIfBoxed, pushGeometry, pushText, pushNode, referenceStep, visitFoundCell, onReference, visitCell, visitReference, visitSource}
+use Rattle.plan_rules.specs.OnTape.{Given, givenBytes, Output, query, addLoadIfBoxed, pushNode, referenceStep, visitFoundCell, onReference, visitCell, visitReference, visitSource}
 use Rattle.plan_rules.proofs.Paths.Cells as Paths
 use Rattle.visit_items.specs.declared.OpenCell.{OpenCell}
-use Rattle.visit_items.specs.Lists.{opened, visitReferences, visitLists}
+use Rattle.visit_items.specs.Lists.{opened, pushGeometries, pushTexts, visitReferences, visitLists}
+use Rattle.visit_items.proofs.NumberLoop.{one}
 use Rattle.enter_cell.specs.declared.Entered.{Entered}
 use Rattle.enter_cell.specs.Left.{foundCell, leftOfCell}
 
@@ -106,11 +107,11 @@ module _ (s finder : List ℕ) (f : Fixed) (hidden : List ℕ) (depth : ℕ) whe
     pub source-cell : source ≡ Cell n → (v : Output) → v ≡ visitCell g depth n p w → go v ≡ sourced
     source-cell e v f = rw e (ap go f ∙ sym (Paths.source-cell g depth n p w))
 
-    pub source-geometry : source ≡ Geometry n → (v : Output) → v ≡ pushGeometry g n p w → go v ≡ sourced
-    source-geometry e v f = rw e (ap go f ∙ sym (Paths.source-geometry g depth n p w))
+    pub source-geometry : source ≡ Geometry n → (at : ℕ → ℕ) (x : Flow (List ℕ)) → x ≡ pushGeometries g at p 1 n w → x ≡ sourced
+    source-geometry e at x f = rw e (f ∙ one g _ at n w ∙ sym (Paths.source-geometry g depth n p w))
 
-    pub source-text : source ≡ Text n → (v : Output) → v ≡ pushText g n p w → go v ≡ sourced
-    source-text e v f = rw e (ap go f ∙ sym (Paths.source-text g depth n p w))
+    pub source-text : source ≡ Text n → (at : ℕ → ℕ) (x : Flow (List ℕ)) → x ≡ pushTexts g at p 1 n w → x ≡ sourced
+    source-text e at x f = rw e (f ∙ one g _ at n w ∙ sym (Paths.source-text g depth n p w))
 
     pub source-node : source ≡ Node n → (x : Flow (List ℕ)) → x ≡ pushNode g n p w → x ≡ sourced
     source-node e x h = rw e (h ∙ sym (Paths.source-node g depth n p w))

@@ -207,38 +207,30 @@ fn visit_source(
                 whole: true,
             }
         }
-        PreparedSource::Geometry(number) => {
-            let next = pushes::push_geometry(
-                sheet,
-                finder,
-                fixed,
-                hidden,
-                out,
-                plan,
-                number,
-                transform,
-            );
-            Visited {
-                plan: next,
-                whole: true,
-            }
-        }
-        PreparedSource::Text(number) => {
-            let next = pushes::push_text(
-                sheet,
-                finder,
-                fixed,
-                hidden,
-                out,
-                plan,
-                number,
-                transform,
-            );
-            Visited {
-                plan: next,
-                whole: true,
-            }
-        }
+        PreparedSource::Geometry(number) => visit_items::push_geometries(
+            sheet,
+            finder,
+            fixed,
+            hidden,
+            out,
+            plan,
+            number,
+            0, // no cell's record: the source is one number
+            1,
+            transform,
+        ),
+        PreparedSource::Text(number) => visit_items::push_texts(
+            sheet,
+            finder,
+            fixed,
+            hidden,
+            out,
+            plan,
+            number,
+            0, // no cell's record: the source is one number
+            1,
+            transform,
+        ),
         PreparedSource::Node(number) => pushes::push_node(
             sheet,
             finder,

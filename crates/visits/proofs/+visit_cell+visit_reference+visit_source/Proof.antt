@@ -95,9 +95,9 @@ pub +visit-cell+visit-reference+visit-source-spec : {M : Type 1} → statement M
     (λ c. search needs)  -- enum-known-source
     (λ c κs. search needs)  -- visit-cell-requires
     (λ c. search needs)  -- enum-known-source-2
-    (λ c κs. search needs)  -- push-geometry-requires
+    (λ c κs. search needs)  -- push-geometries-requires
     (λ c. search needs)  -- enum-known-source-3
-    (λ c κs. search needs)  -- push-text-requires
+    (λ c κs. search needs)  -- push-texts-requires
     (λ c. search needs)  -- enum-known-source-4
     (λ c κs. search needs)  -- push-node-requires
     (λ c. search needs)  -- enum-known-source-5

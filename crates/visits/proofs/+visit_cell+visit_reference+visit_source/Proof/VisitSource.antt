@@ -18,21 +18,21 @@ module _ (t : ℕ) where
 
   pub to-geometry : lts.Need-returns-2 (visit-source-claims t) (visit-source-at t) visit-source.Post
   to-geometry c =
-      let after-push-geometry = c .before .before in
-      let after-source2 = after-push-geometry .before .before .before in
+      let after-push-geometries = c .before .before in
+      let after-source2 = after-push-geometries .before .before .before in
       let start = after-source2 .before .before .before .before .before .before .before .before in
       Cells.source-geometry (start .args .sheet .now) (start .args .finder .now) (start .args .fixed) (start .args .hidden .now) (start .args .depth) (start .args .source) (after-source2 .source2 .given .0 .0) (start .args .transform)
       (world (start .args .plan) (start .args .out .now) (start .args .counts .now) (start .args .marks .now))
-      (after-source2 .source2 .given .1) _ (after-push-geometry .push-geometry .ensures (start .args .counts .now) (start .args .marks .now))
+      (after-source2 .source2 .given .1) _ _ (after-push-geometries .push-geometries .ensures (start .args .counts .now) (start .args .marks .now))
 
   pub to-text : lts.Need-returns-3 (visit-source-claims t) (visit-source-at t) visit-source.Post
   to-text c =
-      let after-push-text = c .before .before in
-      let after-source3 = after-push-text .before .before .before in
+      let after-push-texts = c .before .before in
+      let after-source3 = after-push-texts .before .before .before in
       let start = after-source3 .before .before .before .before .before .before .before .before in
       Cells.source-text (start .args .sheet .now) (start .args .finder .now) (start .args .fixed) (start .args .hidden .now) (start .args .depth) (start .args .source) (after-source3 .source3 .given .0 .0) (start .args .transform)
       (world (start .args .plan) (start .args .out .now) (start .args .counts .now) (start .args .marks .now))
-      (after-source3 .source3 .given .1) _ (after-push-text .push-text .ensures (start .args .counts .now) (start .args .marks .now))
+      (after-source3 .source3 .given .1) _ _ (after-push-texts .push-texts .ensures (start .args .counts .now) (start .args .marks .now))
 
   pub to-node : lts.Need-returns-4 (visit-source-claims t) (visit-source-at t) visit-source.Post
   to-node c =
