@@ -14,6 +14,7 @@ mod cell; // the lists of an open cell
 
 pub use lists::load_cell;
 pub use lists::push_geometries;
+pub use lists::push_nodes;
 pub use lists::push_texts;
 
 // A cell that is open: its number, where its record stands, the record, and where the cell is placed, with its box there.

@@ -24,10 +24,10 @@ use Rattle.plan_rules.specs.declared.Reason.the-variants.{OtherLimit}
 use Rattle.plan_rules.specs.World.{detailBudgetExhausted, world, Flow, go, halt, setMark}
 use Rattle.plan_rules.specs.Scratch.{openPlace}
 use Rattle.plan_rules.specs.Visit as rules
-use Rattle.plan_rules.specs.OnTape.{Given, givenBytes, Output, query, addLoadIfBoxed, pushNode, referenceStep, visitFoundCell, onReference, visitCell, visitReference, visitSource}
+use Rattle.plan_rules.specs.OnTape.{Given, givenBytes, Output, query, addLoadIfBoxed, referenceStep, visitFoundCell, onReference, visitCell, visitReference, visitSource}
 use Rattle.plan_rules.proofs.Paths.Cells as Paths
 use Rattle.visit_items.specs.declared.OpenCell.{OpenCell}
-use Rattle.visit_items.specs.Lists.{opened, pushGeometries, pushTexts, visitReferences, visitLists}
+use Rattle.visit_items.specs.Lists.{opened, pushGeometries, pushTexts, pushNodes, visitReferences, visitLists}
 use Rattle.visit_items.proofs.NumberLoop.{one}
 use Rattle.enter_cell.specs.declared.Entered.{Entered}
 use Rattle.enter_cell.specs.Left.{foundCell, leftOfCell}
@@ -113,8 +113,8 @@ module _ (s finder : List ℕ) (f : Fixed) (hidden : List ℕ) (depth : ℕ) whe
     pub source-text : source ≡ Text n → (at : ℕ → ℕ) (x : Flow (List ℕ)) → x ≡ pushTexts g at p 1 n w → x ≡ sourced
     source-text e at x f = rw e (f ∙ one g _ at n w ∙ sym (Paths.source-text g depth n p w))
 
-    pub source-node : source ≡ Node n → (x : Flow (List ℕ)) → x ≡ pushNode g n p w → x ≡ sourced
-    source-node e x h = rw e (h ∙ sym (Paths.source-node g depth n p w))
+    pub source-node : source ≡ Node n → (at : ℕ → ℕ) (x : Flow (List ℕ)) → x ≡ pushNodes g at p 1 n w → x ≡ sourced
+    source-node e at x f = rw e (f ∙ one g _ at n w ∙ sym (Paths.source-node g depth n p w))
 
     pub source-reference : source ≡ Reference n → (v : Output) → v ≡ visitReference g depth n p w → go v ≡ sourced
     source-reference e v f = rw e (ap go f ∙ sym (Paths.source-reference g depth n p w))

@@ -187,6 +187,7 @@ fn visit_source(
     ensures { λ r. ⌜ flow (r .whole) (lent (r .plan) (out .exit) (counts .exit) (marks .exit))
         ≡ visitSource (given fixed (sheet .entry) (finder .entry) (hidden .entry)) depth source transform (lent plan (out .entry) (counts .entry) (marks .entry)) ⌝ }
 {
+    // A batch, a text or a node is a list of one number, and no record has the others.
     match source {
         PreparedSource::Cell(cell) => {
             let next = visit_cell(
@@ -215,7 +216,7 @@ fn visit_source(
             out,
             plan,
             number,
-            0, // no cell's record: the source is one number
+            0,
             1,
             transform,
         ),
@@ -227,11 +228,11 @@ fn visit_source(
             out,
             plan,
             number,
-            0, // no cell's record: the source is one number
+            0,
             1,
             transform,
         ),
-        PreparedSource::Node(number) => pushes::push_node(
+        PreparedSource::Node(number) => visit_items::push_nodes(
             sheet,
             finder,
             fixed,
@@ -239,6 +240,8 @@ fn visit_source(
             out,
             plan,
             number,
+            0,
+            1,
             transform,
         ),
         PreparedSource::Reference(number) => {

@@ -99,7 +99,7 @@ pub +visit-cell+visit-reference+visit-source-spec : {M : Type 1} → statement M
     (λ c. search needs)  -- enum-known-source-3
     (λ c κs. search needs)  -- push-texts-requires
     (λ c. search needs)  -- enum-known-source-4
-    (λ c κs. search needs)  -- push-node-requires
+    (λ c κs. search needs)  -- push-nodes-requires
     (λ c. search needs)  -- enum-known-source-5
     (λ c κs. search needs)  -- visit-reference-requires
     (λ c. search needs)  -- same-length

@@ -9,12 +9,12 @@ use Rattle.grid.proofs.grid_count.Reads as grid-count-reads
 use Rattle.events.proofs.add_load.Reads as add-load-reads
 use Rattle.visit_items.proofs.load_cell.Reads as load-cell-reads
 use Rattle.limits.proofs.detail_budget_exhausted.Reads as detail-budget-exhausted-reads
-use Rattle.pushes.proofs.push_node.Reads as push-node-reads
 use Rattle.records.proofs.cell_reference_at.Reads as cell-reference-at-reads
 use Rattle.records.proofs.reference_at.Reads as reference-at-reads
 use Rattle.units.proofs.reference_draw_units.Reads as reference-draw-units-reads
 use Rattle.scratch.proofs.stack_remove.Reads as stack-remove-reads
 use Rattle.visit_items.proofs.push_geometries.Reads as push-geometries-reads
+use Rattle.visit_items.proofs.push_nodes.Reads as push-nodes-reads
 use Rattle.visit_items.proofs.push_texts.Reads as push-texts-reads
 use Rattle.visit_items.proofs.push_items.Reads as push-items-reads
 use Rattle.records.proofs.label.Reads as label-reads
@@ -77,4 +77,4 @@ abbrev pub visit-reference-claims : ℕ → visit-reference-lts.Claims
 visit-reference-claims t = (look-up-reads.Asked, look-up-reads.Learnt, reference-at-reads.Asked, reference-at-reads.Learnt, open-reference-reads.Asked, open-reference-reads.Learnt, grid-count-reads.Asked, grid-count-reads.Learnt, reference-draw-units-reads.Asked, reference-draw-units-reads.Learnt, reference-test-reads.Asked, reference-test-reads.Learnt, label-reads.Asked, label-reads.Learnt, collapses-reads.Asked, collapses-reads.Learnt, collapse-reason-reads.Asked, collapse-reason-reads.Learnt, add-load-reads.Asked, add-load-reads.Learnt, source-units-reads.Asked, source-units-reads.Learnt, try-member-reads.Asked, try-member-reads.Learnt, visit-source-below t, visit-source.Post)
 
 abbrev pub visit-source-claims : ℕ → visit-source-lts.Claims
-visit-source-claims t = (visit-cell-below t, visit-cell.Post, push-geometries-reads.Asked, push-geometries-reads.Learnt, push-texts-reads.Asked, push-texts-reads.Learnt, push-node-reads.Asked, push-node-reads.Learnt, visit-reference-below t, visit-reference.Post)
+visit-source-claims t = (visit-cell-below t, visit-cell.Post, push-geometries-reads.Asked, push-geometries-reads.Learnt, push-texts-reads.Asked, push-texts-reads.Learnt, push-nodes-reads.Asked, push-nodes-reads.Learnt, visit-reference-below t, visit-reference.Post)

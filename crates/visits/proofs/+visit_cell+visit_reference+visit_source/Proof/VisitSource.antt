@@ -36,12 +36,12 @@ module _ (t : ℕ) where
 
   pub to-node : lts.Need-returns-4 (visit-source-claims t) (visit-source-at t) visit-source.Post
   to-node c =
-      let after-push-node = c .before .before in
-      let after-source4 = after-push-node .before .before .before in
+      let after-push-nodes = c .before .before in
+      let after-source4 = after-push-nodes .before .before .before in
       let start = after-source4 .before .before .before .before .before .before .before .before in
       Cells.source-node (start .args .sheet .now) (start .args .finder .now) (start .args .fixed) (start .args .hidden .now) (start .args .depth) (start .args .source) (after-source4 .source4 .given .0 .0) (start .args .transform)
       (world (start .args .plan) (start .args .out .now) (start .args .counts .now) (start .args .marks .now))
-      (after-source4 .source4 .given .1) _ (after-push-node .push-node .ensures (start .args .counts .now) (start .args .marks .now))
+      (after-source4 .source4 .given .1) _ _ (after-push-nodes .push-nodes .ensures (start .args .counts .now) (start .args .marks .now))
 
   pub to-reference : lts.Need-returns-5 (visit-source-claims t) (visit-source-at t) visit-source.Post
   to-reference c =
