@@ -3,14 +3,13 @@ ghost use mathlib.Core.Path.{_≡_};
 ghost use mathlib.Core.Bool.{true};
 ghost use Prim.Native.Nat.{_+_, _*_, _≤_};
 ghost use lib.ListN.{length};
-ghost use lib.Ieee.{binary64, ofBits};
-ghost use Rattle.floats.specs.Order.{isFinite};
 ghost use Rattle.walk.specs.Offsets.{Whole};
 ghost use Rattle.records.specs.Format.{f, node, endOf};
 ghost use Rattle.check_record.specs.Tests.{every};
 ghost use Rattle.check_record.specs.Shape.{shapeOk};
 ghost use Rattle.check_record.specs.Floats.{finiteAt, floatsFrom, floatsCount, floatsOk};
 use fields::KIND;
+use floats::pattern::is_finite_pattern;
 use records::format::BOX;
 use records::format::CELL_BOX;
 use records::format::FLOAT;
@@ -20,13 +19,6 @@ use records::format::POINT;
 use records::format::REFERENCE_END;
 use records::format::REFERENCE_ORIGIN;
 
-// Whether a pattern is that of a finite float: its exponent field is not all ones.
-fn finite_bits(n: u64) -> bool
-    ensures { λ r. ⌜ r ≡ isFinite (ofBits binary64 n) ⌝ }
-{
-    n % 0x8000_0000_0000_0000 / 0x10_0000_0000_0000 != 2047
-}
-
 // Whether `count` floats side by side are finite.
 fn all_finite(s: &[u8], from: usize, count: usize) -> bool
     requires { ⌜ from + f * count ≤ length (now s) ⌝ }
@@ -35,7 +27,7 @@ fn all_finite(s: &[u8], from: usize, count: usize) -> bool
     let mut at = from;
     let mut left = count;
     while 0 < left {
-        if finite_bits(fields::u64_within(s, at)) {
+        if is_finite_pattern(fields::u64_within(s, at)) {
             at += FLOAT;
             left -= 1;
         } else {

@@ -1,10 +1,12 @@
--- A NaN is what differs from itself, and what 0 / 0 gives. Assumes nothing.
+-- A NaN is what differs from itself, and what 0 / 0 gives; a finite float is none. Assumes nothing.
 use mathlib.Core.Path.{_≡_, refl, sym, ap, _∙_, subst}
+use Prim.Native.Nat.{ℕ}
 use mathlib.Core.Bool.{Bool, true, false, not, false≢true}
 use lib.Dec.{T, not-T}
-use lib.Ieee.{Float, nan, inf, fin, Format, binary32, binary64, isNan, ne, eq, div, ofBits}
-use lib.Ieee.Bits.{is-false}
+use lib.Ieee.{Float, nan, inf, fin, Format, binary32, binary64, isNan, nanBits, ne, eq, div, ofBits}
+use lib.Ieee.Bits.{is-false, nanBits-is}
 use lib.Ieee.Compare.{differs-from-itself}
+use Rattle.floats.specs.Order.{isFinite}
 
 -- the test `x != x`
 pub differs-is-nan : (x : Float) → ne x x ≡ isNan x
@@ -30,3 +32,13 @@ pub zero-by-zero : (f : Format) → div f (ofBits f 0) (ofBits f 0) ≡ nan
 unfolding div ofBits
 zero-by-zero binary32 = refl
 zero-by-zero binary64 = refl
+
+finite-is-number : (x : Float) → isFinite x ≡ true → T (not (isNan x))
+unfolding isFinite isNan
+finite-is-number nan h = absurd (false≢true h)
+finite-is-number (inf s) h = tt
+finite-is-number (fin s m e) h = tt
+
+-- what `f64::from_bits` asks of a pattern
+pub finite-pattern : (f : Format) (n : ℕ) → isFinite (ofBits f n) ≡ true → T (not (nanBits f n))
+finite-pattern f n h = subst (λ (b : Bool). T (not b)) (sym (nanBits-is f n)) (finite-is-number (ofBits f n) h)

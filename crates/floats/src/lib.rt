@@ -6,5 +6,5 @@
 // Least, greatest, absolute value, finiteness.
 pub mod order;
 
-// An f64 to its pattern and back, total.
+// An f64 to its pattern and back, total, and whether a pattern is that of a finite one.
 pub mod pattern;

@@ -9,6 +9,8 @@ ghost use Rattle.records.specs.Sources.{label};
 use crate::PreparedSource;
 use crate::format::FLOAT;
 use crate::format::REFERENCE_END;
+use floats::pattern::f64_from_bits;
+use floats::pattern::is_finite_pattern;
 use geometry::bbox::Bounds;
 use geometry::bbox::WorldBBox;
 use geometry::placement::DVec2;
@@ -58,11 +60,28 @@ pub fn world_bbox_within(s: &[u8], at: usize) -> WorldBBox
     requires { ⌜ at + 4 * f ≤ length (now s) ⌝ }
     ensures { λ r. ⌜ r ≡ worldBBoxAt (now (s .entry)) at ⌝ }
 {
+    let min_x = fields::u64_within(s, at);
+    let min_y = fields::u64_within(s, at + FLOAT);
+    let max_x = fields::u64_within(s, at + 2 * FLOAT);
+    let max_y = fields::u64_within(s, at + 3 * FLOAT);
+    // Eager, so that the four have one branch. A finite pattern is no NaN's: its float needs no test.
+    if is_finite_pattern(min_x)
+        & is_finite_pattern(min_y)
+        & is_finite_pattern(max_x)
+        & is_finite_pattern(max_y)
+    {
+        return WorldBBox {
+            min_x: f64::from_bits(min_x),
+            min_y: f64::from_bits(min_y),
+            max_x: f64::from_bits(max_x),
+            max_y: f64::from_bits(max_y),
+        };
+    }
     WorldBBox {
-        min_x: fields::f64_within(s, at),
-        min_y: fields::f64_within(s, at + FLOAT),
-        max_x: fields::f64_within(s, at + 2 * FLOAT),
-        max_y: fields::f64_within(s, at + 3 * FLOAT),
+        min_x: f64_from_bits(min_x),
+        min_y: f64_from_bits(min_y),
+        max_x: f64_from_bits(max_x),
+        max_y: f64_from_bits(max_y),
     }
 }
 

@@ -32,8 +32,8 @@ loop-holds c = (c .before .pre, refl)
 u64-within-requires : tie.Need-u64-within-requires Inv-loop μ-loop
 u64-within-requires c κs = omega arith
 
-finite-bits-requires : tie.Need-finite-bits-requires Inv-loop μ-loop
-finite-bits-requires c κs = tt
+is-finite-pattern-requires : tie.Need-is-finite-pattern-requires Inv-loop μ-loop
+is-finite-pattern-requires c κs = tt
 
 add-at : tie.Need-add-at Inv-loop μ-loop
 add-at c = omega arith
@@ -48,14 +48,14 @@ loop-again : tie.Need-loop-again Inv-loop μ-loop
 loop-again c =
     let l = c .before .before .before .before .loop in
     let s = now (c .before .before .before .before .before .before .args .s) in
-    let finite = is-finite s (l .at) _ _ (c .before .before .u64-within .ensures) (c .before .finite-bits .ensures) in
+    let finite = is-finite s (l .at) _ _ (c .before .before .u64-within .ensures) (c .before .is-finite-pattern .ensures) in
     (omega arith, sym (every-pass (finiteAt s) 8 (l .left) (l .at) (omega arith) (finite ∙ c .if1 .taken)) ∙ l .inv .1)
 
 returns : tie.Need-returns Inv-loop μ-loop
 returns c =
     let l = c .before .before .before .before .loop in
     let s = now (c .before .before .before .before .before .before .args .s) in
-    let finite = is-finite s (l .at) _ _ (c .before .before .u64-within .ensures) (c .before .finite-bits .ensures) in
+    let finite = is-finite s (l .at) _ _ (c .before .before .u64-within .ensures) (c .before .is-finite-pattern .ensures) in
     sym (sym (l .inv .1) ∙ every-fail (finiteAt s) 8 (l .left) (l .at) (omega arith) (finite ∙ c .if1 .left))
 
 returns-2 : tie.Need-returns-2 Inv-loop μ-loop
@@ -69,7 +69,7 @@ all-finite-spec =
     μ-loop
     loop-holds
     u64-within-requires
-    finite-bits-requires
+    is-finite-pattern-requires
     add-at
     sub-left
     loop-less
