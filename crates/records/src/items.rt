@@ -1,13 +1,14 @@
 // Batches, texts, nodes and references, at a record's offset.
 // One test that the whole record lies within the bytes spares one at each field; of a record cut short by their end a copy with zeros after it is read.
 ghost use mathlib.Core.Path.{_≡_};
-ghost use Prim.Native.Nat.{_+_, _≤_};
+ghost use Prim.Native.Nat.{_+_, _-_, _≤_};
 ghost use lib.ListN.{length};
 ghost use Rattle.records.specs.Format.{geometry, text, node, reference, endOf};
 ghost use Rattle.records.specs.Records.{geometryAt, textAt, pointsOf, nodeAt, nodePointAt, gridAt, referenceAt, sourceFieldAt};
 use crate::PreparedGeometry;
 use crate::PreparedNode;
 use crate::PreparedReference;
+use crate::PreparedSource;
 use crate::PreparedText;
 use crate::SourceField;
 use crate::format::COLUMNS;
@@ -44,6 +45,7 @@ use crate::parts::length_from;
 use crate::parts::padded;
 use crate::parts::source_of;
 use crate::parts::world_bbox_within;
+use geometry::bbox::Bounds;
 use geometry::placement::DVec2;
 use grid::Grid;
 
@@ -156,19 +158,46 @@ pub fn source_within(s: &[u8], at: usize) -> SourceField
     }
 }
 
+fn prepared_source_within(s: &[u8], at: usize) -> PreparedSource
+    requires { ⌜ at + endOf reference ≤ length (now s) ⌝ }
+    ensures { λ r. ⌜ r ≡ referenceAt (now (s .entry)) at .source ⌝ }
+{
+    let source = source_within(s, at);
+    source_of(source.kind, source.number)
+}
+
+fn source_bbox_within(s: &[u8], at: usize) -> Bounds
+    requires { ⌜ at + endOf reference ≤ length (now s) ⌝ }
+    ensures { λ r. ⌜ r ≡ referenceAt (now (s .entry)) at .«source_bbox» ⌝ }
+{
+    bounds_within(
+        s,
+        at + SOURCE_BOX,
+        bit(fields::u16_within(s, at + REFERENCE_FLAGS), 1),
+    )
+}
+
 fn reference_within(s: &[u8], at: usize) -> PreparedReference
     requires { ⌜ at + endOf reference ≤ length (now s) ⌝ }
     ensures { λ r. ⌜ r ≡ referenceAt (now (s .entry)) at ⌝ }
 {
-    let source = source_within(s, at);
     PreparedReference {
         grid: grid_within(s, at),
-        source: source_of(source.kind, source.number),
-        source_bbox: bounds_within(
-            s,
-            at + SOURCE_BOX,
-            bit(fields::u16_within(s, at + REFERENCE_FLAGS), 1),
-        ),
+        source: prepared_source_within(s, at),
+        source_bbox: source_bbox_within(s, at),
+    }
+}
+
+// A reference cut short by the end of the bytes. `reference_within` is not called a second time: with one call the compiler builds its answer in place.
+fn reference_cut_short(s: &[u8], at: usize) -> PreparedReference
+    requires { ⌜ length (now s) - at ≤ endOf reference ⌝ }
+    ensures { λ r. ⌜ r ≡ referenceAt (now (s .entry)) at ⌝ }
+{
+    let rest = padded(s, at);
+    PreparedReference {
+        grid: grid_within(&rest, 0),
+        source: prepared_source_within(&rest, 0),
+        source_bbox: source_bbox_within(&rest, 0),
     }
 }
 
@@ -178,5 +207,5 @@ pub fn reference_at(s: &[u8], at: usize) -> PreparedReference
     if REFERENCE_END <= length_from(s, at) {
         return reference_within(s, at);
     }
-    reference_within(&padded(s, at), 0)
+    reference_cut_short(s, at)
 }
