@@ -7,8 +7,10 @@
 --     WellFormed   a valid sheet is well formed
 --     Examples     small sheets and their answers, computed
 --     Passed       the counts of the records before an offset
+--     Remaining    the records from an offset on, and what question 7 still asks of them
 -- Assumes nothing.
 mod Passed
+mod Remaining
 pub mod Passes
 pub mod Answers
 pub mod Verdict

@@ -22,7 +22,7 @@ pub enum Checked {
     Refused(u32, usize),
 }
 
-// Any bytes get an answer, in two passes over them.
+// Any bytes get an answer, in at most two passes over them.
 pub fn check_sheet(s: &[u8]) -> Checked
     ensures { λ r. ⌜ verdict r ≡ verdictOf (now (s .entry)) ⌝ }
 {

@@ -9,6 +9,7 @@ ghost use Rattle.check_record.specs.Tests.{every};
 ghost use Rattle.check_record.specs.Shape.{listsAt};
 ghost use Rattle.check_record.specs.Record.{Right};
 ghost use Rattle.check_sheet.specs.declared.Checked.the-variants.{Sound};
+ghost use Rattle.check_sheet.specs.Count.{countsOf};
 ghost use Rattle.check_sheet.specs.Links.{sourceNamed, belowAt, listsNamed, linkOk};
 ghost use Rattle.check_sheet.specs.Check.{firstUnnamed};
 use crate::Checked;
@@ -100,21 +101,27 @@ fn link_ok(s: &[u8], c: Counts, own: u32, at: usize) -> bool
     true
 }
 
-// The first record that names what is missing, or the counts of a sound sheet.
+// The first record that names what is missing, or the counts of a sound sheet. Nothing is left to ask after the last reference or cell.
 pub fn links(s: &[u8], c: Counts) -> Checked
     requires { ⌜ length (now s) ≤ maxSheetBytes ⌝ }
     requires { ⌜ All (Right (now s)) (offsets (now s)) ⌝ }
+    requires { ⌜ c ≡ countsOf (now s) ⌝ }
     ensures { λ r. ⌜ r ≡ firstUnnamed (now (s .entry)) c 0 (offsets (now (s .entry))) (Sound c) ⌝ }
 {
     let mut at = 0;
     let mut own = 0;
-    while at < s.len() {
-        if link_ok(s, c, own, at) {
-            own = tally(own, fields::u16_within(s, at + KIND), 4);
-            at += fields::u32_within(s, at) as usize;
-        } else {
-            return Checked::Refused(6, at);
+    let mut to_ask = c.references as usize + c.cells as usize;
+    while 0 < to_ask {
+        let kind = fields::u16_within(s, at + KIND);
+        if 3 < kind {
+            if link_ok(s, c, own, at) {
+                own = tally(own, kind, 4);
+                to_ask -= 1;
+            } else {
+                return Checked::Refused(6, at);
+            }
         }
+        at += fields::u32_within(s, at) as usize;
     }
     Checked::Sound(c)
 }

@@ -37,7 +37,9 @@ returns-2 c =
     ap verdict (sym (too-many-cells _ (omega arith) (known .0) (omega arith)))
 
 links-requires : tie.Need-links-requires
-links-requires c κs = (omega arith, counted (now (c .before .before .before .before .before .before .before .before .args .s)) _ (sym (c .before .before .before .before .before .scan .ensures) ∙ c .before .before .before .counts .given .1) .0)
+links-requires c κs =
+    let known = counted (now (c .before .before .before .before .before .before .before .before .args .s)) _ (sym (c .before .before .before .before .before .scan .ensures) ∙ c .before .before .before .counts .given .1) in
+    (omega arith, (known .0, known .1))
 
 returns-3 : tie.Need-returns-3
 returns-3 c = ap verdict (sym (record-refused _ (omega arith) _ _ _ (sym (c .before .before .before .scan .ensures) ∙ c .before .number .given .1)))
