@@ -1,4 +1,4 @@
-//! What the translated code calls of the system: standard input and output as bytes of this thread, and calls that go wrong.
+//! What the translated code calls of the kit and of the system: standard input and output as bytes of this thread, and calls that go wrong.
 
 pub mod system {
     use std::cell::{Cell, RefCell};
@@ -105,5 +105,18 @@ pub mod io {
         let digits = n.to_string();
         text[..digits.len()].copy_from_slice(digits.as_bytes());
         digits.len()
+    }
+}
+
+pub mod bytes {
+    pub fn copy(from: &[u8], to: &mut [u8]) -> usize {
+        to[..from.len()].copy_from_slice(from);
+        from.len()
+    }
+}
+
+pub mod num {
+    pub fn nearest_u32_to_f32(n: u32) -> f32 {
+        n as f32
     }
 }

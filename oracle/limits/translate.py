@@ -10,7 +10,7 @@ import os, re
 CRATES = """floats rounding fused fields geometry grid screen walk records check_record check_sheet check_sheet_c look_up finder
 open_sheet plan_rules limits scratch check_query tape events pushes units visit_items enter_cell open_reference try_member visits
 planner planner_c plan_query plan_text streams plan_answer plan""".split()
-SYSTEM = ['io', 'libc', 'os']  # what they call of the system: system.rs has stand-ins
+SYSTEM = ['bytes', 'io', 'libc', 'os']  # what they call of the kit and the system: system.rs has stand-ins, as of `std::num`
 
 # Where numbers outside of comparisons are changed too: exponents, shifts and masks, the places of the scratch, and what `plan` lends.
 NUMBERS = {'floats', 'rounding', 'fused', 'scratch', 'plan'}
@@ -249,6 +249,7 @@ class File:
         text = re.sub(r'\b(pub(\(crate\))? )?(struct|enum)\b', r'#[derive(Clone, Copy)] pub \3', text)
         text = re.sub(r'\[0(u\d+); (crate::switch::number\([^)]*\))\]', r'vec![0\1; \2]', text)
         text = text.replace('fn main()', 'pub fn main()')
+        text = text.replace('std::num::', 'crate::num::')
         return text.replace('#[no_mangle]', '').replace('extern "C" ', '')
 
 

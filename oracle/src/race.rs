@@ -172,41 +172,31 @@ fn row(large: &Large, input: &[u8], most: usize, walking: bool) -> Option<Row> {
     Some(Row { name: large.name, seed: large.seed, line, share, plan, rust, checked, bytes })
 }
 
+/// The worst of some rows by a figure, as a bound: what it says, and whether it holds. None without a row.
+fn worst_of<'a>(rows: impl Iterator<Item = &'a Row>, figure: impl Fn(&Row) -> f64, says: &str, most: f64) -> Option<(String, bool)> {
+    let rows: Vec<&Row> = rows.collect();
+    let worst = rows.iter().max_by(|a, b| figure(a).total_cmp(&figure(b)))?;
+    let text = format!("{} {says} {most}: {:.2}, {} {}", rows.len(), figure(worst), worst.name, worst.seed);
+    Some((text, figure(worst) <= most))
+}
+
 /// The bounds against the Rust's plan, over all rows on which that takes long enough, and against its build and plan, over
 /// all long sheets. On a slanted sheet the fused operation, which the processor has, is done by shifts and masks.
-fn pace_bounds(rows: &[Row]) -> Vec<(String, bool)> {
-    let timed: Vec<&Row> = rows.iter().filter(|row| row.rust > TIMED).collect();
-    let ratio = |row: &&Row| row.plan / row.rust;
+/// That half of the rows are ahead of the Rust is asked of the whole table alone.
+fn pace_bounds(rows: &[Row], whole: bool) -> Vec<(String, bool)> {
+    let timed = || rows.iter().filter(|row| row.rust > TIMED);
+    let slanted = |row: &&Row| row.name.starts_with("slanted");
+    let ratio = |row: &Row| row.plan / row.rust;
     let mut bounds = Vec::new();
-    for (slanted, most) in [(false, 1.5), (true, 2.5)] {
-        let rows = timed.iter().filter(|row| row.name.starts_with("slanted") == slanted);
-        if let Some(worst) = rows.clone().max_by(|a, b| ratio(a).total_cmp(&ratio(b))) {
-            let kind = if slanted { "slanted sheets" } else { "sheets" };
-            let text = format!(
-                "{} {kind} that the Rust plans in over {TIMED} ms: the plan at most {most} of the Rust's: {:.2}, {} {}",
-                rows.count(),
-                ratio(worst),
-                worst.name,
-                worst.seed
-            );
-            bounds.push((text, ratio(worst) <= most));
-        }
-    }
-    if !timed.is_empty() {
-        let ahead = timed.iter().filter(|row| ratio(row) <= 1.0).count();
-        let text = format!("the plan at most 1.0 of the Rust's on half of these: {ahead} of {}", timed.len());
-        bounds.push((text, 2 * ahead >= timed.len()));
-    }
+    bounds.extend(worst_of(timed().filter(|row| !slanted(row)), ratio, "sheets: the plan over the Rust's at most", 1.5));
+    bounds.extend(worst_of(timed().filter(slanted), ratio, "slanted sheets: the plan over the Rust's at most", 2.5));
     let long = rows.iter().filter(|row| row.bytes > LONG);
-    if let Some(worst) = long.clone().max_by(|a, b| a.checked.total_cmp(&b.checked)) {
-        let text = format!(
-            "{} sheets above {LONG} bytes: questions and plan below the Rust's build + plan: {:.2}, {} {}",
-            long.count(),
-            worst.checked,
-            worst.name,
-            worst.seed
-        );
-        bounds.push((text, worst.checked < 1.0));
+    bounds.extend(worst_of(long, |row| row.checked, "long sheets: questions + plan over the Rust's build + plan at most", 1.0));
+    if whole {
+        let (ahead, all) = (timed().filter(|row| ratio(row) <= 1.0).count(), timed().count());
+        bounds.push((format!("the plan over the Rust's at most 1.0 on half of {all} sheets: {ahead}"), 2 * ahead >= all));
+        let absent = bounds.len() < 4;
+        bounds.push((format!("{} of the 4 bounds on the pace have a row", bounds.len()), !absent));
     }
     bounds
 }
@@ -224,7 +214,7 @@ fn bounds(rows: &[Row], name: &str) -> Vec<(String, bool)> {
     if "city".starts_with(name) {
         bounds.push(cities_bound(rows));
     }
-    bounds.extend(pace_bounds(rows));
+    bounds.extend(pace_bounds(rows, name.is_empty()));
     bounds
 }
 

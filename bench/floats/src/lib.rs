@@ -6,6 +6,7 @@ extern "C" {
     fn floats_mul_add(x: f64, y: f64, z: f64) -> f64;
     fn floats_f64_to_f32(x: f64) -> f32;
     fn floats_u64_to_f32(n: u64) -> f32;
+    fn floats_f64_abs(x: f64) -> f64;
 }
 
 #[inline(always)]
@@ -18,6 +19,12 @@ pub fn mul_add(x: f64, y: f64, z: f64) -> f64 {
 pub fn f64_to_f32(x: f64) -> f32 {
     // SAFETY: as above.
     unsafe { floats_f64_to_f32(x) }
+}
+
+#[inline(always)]
+pub fn f64_abs(x: f64) -> f64 {
+    // SAFETY: as above.
+    unsafe { floats_f64_abs(x) }
 }
 
 #[inline(always)]

@@ -8,6 +8,7 @@ pub mod faults;
 pub mod large;
 pub mod long;
 pub mod query;
+#[cfg(feature = "library")]
 pub mod raced;
 pub mod refusals;
 pub mod rng;
