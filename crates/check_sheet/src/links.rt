@@ -1,4 +1,4 @@
-// The second pass: question 7, record by record.
+// The second pass: question 7, of each reference and cell.
 ghost use mathlib.Core.Path.{_≡_};
 ghost use Prim.Native.Nat.{_+_, _*_, _≤_};
 ghost use lib.ListN.{length};

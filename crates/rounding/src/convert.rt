@@ -13,7 +13,7 @@ use crate::decode::significand_of;
 use crate::nearest::leading_zeros;
 use crate::nearest::pack;
 
-// The count n as the nearest f32. One of 32 digits is left to std, which has the machine convert it.
+// The count n as the nearest f32. One below 2^32 is left to std, which converts its halves and adds them.
 pub fn u64_to_f32(n: u64) -> f32
     ensures { λ r. ⌜ r ≡ ofInt binary32 (pos n) ⌝ }
 {

@@ -46,10 +46,11 @@ onePx = fin false 1 (pos 0)
 abbrev pub size : Float → Float → ScreenSize
 size w h = record { width = w; height = h }
 
--- one side: ((max - min).abs() * zoom) as f32, and before it is narrowed
+-- one side before it is narrowed: (max - min).abs() * zoom
 abbrev pub wideSide : Float → Float → Float → Float
 wideSide min max zoom = abs (max ⊖ min) ⊗ zoom
 
+-- one side: ((max - min).abs() * zoom) as f32
 unfoldable pub side : Float → Float → Float → Float
 side min max zoom = narrow (wideSide min max zoom)
 

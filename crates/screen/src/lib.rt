@@ -25,7 +25,7 @@ pub struct ScreenSize {
 }
 
 // One side before it is narrowed: the difference and the product in f64.
-fn side(min: f64, max: f64, zoom: f64) -> f64
+fn wide_side(min: f64, max: f64, zoom: f64) -> f64
     ensures { λ r. ⌜ r ≡ wideSide min max zoom ⌝ }
 {
     floats::order::f64_abs(max - min) * zoom
@@ -35,8 +35,8 @@ fn side(min: f64, max: f64, zoom: f64) -> f64
 pub fn screen_size(bbox: WorldBBox, zoom: f64) -> ScreenSize
     ensures { λ r. ⌜ r ≡ screenSize bbox zoom ⌝ }
 {
-    let width = side(bbox.min_x, bbox.max_x, zoom);
-    let height = side(bbox.min_y, bbox.max_y, zoom);
+    let width = wide_side(bbox.min_x, bbox.max_x, zoom);
+    let height = wide_side(bbox.min_y, bbox.max_y, zoom);
     if rounding::narrows_to_normal(width) {
         if rounding::narrows_to_normal(height) {
             return ScreenSize {

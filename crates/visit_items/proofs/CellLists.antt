@@ -3,15 +3,14 @@
 use mathlib.Core.Path.{_≡_, refl, sym, ap, _∙_}
 use mathlib.Core.Bool.{Bool, true, false, cond}
 use mathlib.Core.List.{List}
-use Prim.Native.Nat.{ℕ, zero, suc, _+_, _-_, _<_}
+use Prim.Native.Nat.{ℕ, zero, suc, _+_, _-_}
 use native.Mathlib.Omega.{arith}
 use Rattle.geometry.specs.declared.bbox.Bounds.{Bounds}
 use Rattle.geometry.specs.declared.placement.Placement.{Placement}
 use Rattle.abstract_sheet.specs.Sheet.{CellRecord}
-use Rattle.plan_rules.specs.declared.ScenePlan.{ScenePlan}
 use Rattle.plan_rules.specs.declared.Fixed.{Fixed}
 use Rattle.plan_rules.specs.declared.Reason.the-variants.{OtherLimit}
-use Rattle.plan_rules.specs.World.{detailBudgetExhausted, world, Flow, go, halt, flow, bind, each}
+use Rattle.plan_rules.specs.World.{detailBudgetExhausted, Flow, go, halt, flow, bind, each}
 use Rattle.plan_rules.specs.OnTape.{Given, query, Output, addLoadIfBoxed, haltWithCell, geometryStep, textStep, nodeStep}
 use Rattle.plan_rules.proofs.Paths.Cells.{geometry-step-exhausted, geometry-step-goes, text-step-exhausted, text-step-goes, node-step-exhausted, node-step-with-room}
 use Rattle.visit_items.specs.declared.OpenCell.{OpenCell}

@@ -12,7 +12,7 @@ use Rattle.records.specs.Records.{cellGeometryAt, cellTextAt, cellNodeAt}
 use Rattle.plan_rules.specs.declared.ScenePlan.{ScenePlan}
 use Rattle.plan_rules.specs.declared.Fixed.{Fixed}
 use Rattle.plan_rules.specs.World.{detailBudgetExhausted, world, Flow, go, halt, bind, each}
-use Rattle.plan_rules.specs.OnTape.{Given, givenBytes, fixedQuery, query, Output, pushGeometry, pushText, pushNode}
+use Rattle.plan_rules.specs.OnTape.{Given, givenBytes, fixedQuery, Output, pushGeometry, pushText, pushNode}
 use Rattle.plan_rules.proofs.Paths.Loops.{each-halt}
 use Rattle.visit_items.specs.Lists.{Push, pushWithRoom, pushFrom}
 

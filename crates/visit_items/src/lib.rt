@@ -1,4 +1,4 @@
-// The batches, texts and nodes of a cell in one call, so that the visit of a cell has one loop left: that over its references.
+// Lists of batches, texts and nodes: one number that a reference places, and a cell's lists. Those of a cell go in one call, so that the visit of a cell has one loop left: that over its references.
 use crate::cell::cell_geometries;
 use crate::cell::cell_nodes;
 use crate::cell::cell_texts;

@@ -1,4 +1,6 @@
 // The lists of numbers that a plan goes through: a cell's batches, texts and nodes, or the one number that a reference has for its source.
+// A loop goes through `count` numbers: `first`, whatever the budget, then those after the first in a list of the cell's record at `at`, while
+// there is room. It answers `false` where a limit stopped it.
 // A push is called in one place, the loop over a list, so that it is compiled into the loop: the totals then stay in registers from number to number.
 use crate::OpenCell;
 use events::add_load_if_boxed;
@@ -23,9 +25,6 @@ pub fn load_cell(out: &mut [u8], plan: ScenePlan, cell: OpenCell) -> ScenePlan
     let bounds = cell.bounds;
     add_load_if_boxed(out, plan, Reason::OtherLimit, cell.number, bounds)
 }
-
-// Each of these three goes through `count` numbers: `first`, whatever the budget, then those after the first in a list of the cell's
-// record at `at`, while there is room. `false` where a limit stopped it.
 
 pub fn push_geometries(
     sheet: &[u8],

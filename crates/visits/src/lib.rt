@@ -187,7 +187,7 @@ fn visit_source(
     ensures { λ r. ⌜ flow (r .whole) (lent (r .plan) (out .exit) (counts .exit) (marks .exit))
         ≡ visitSource (given fixed (sheet .entry) (finder .entry) (hidden .entry)) depth source transform (lent plan (out .entry) (counts .entry) (marks .entry)) ⌝ }
 {
-    // A batch, a text or a node is a list of one number, and no record has the others.
+    // A batch, a text or a node goes through the loop over numbers as a list of one, so that its push has one call; the list's offset, 0, is not read.
     match source {
         PreparedSource::Cell(cell) => {
             let next = visit_cell(

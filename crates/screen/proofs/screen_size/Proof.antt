@@ -16,13 +16,13 @@ both-normal : tie.Need-returns
 unfolding screenSize side
 both-normal c =
     let s = c .before .before .before .before .before .before in
-    λ i. size ((c .before .narrow-normal .ensures ∙ ap narrow (s .before .side .ensures)) i) ((c .narrow-normal2 .ensures ∙ ap narrow (s .side2 .ensures)) i)
+    λ i. size ((c .before .narrow-normal .ensures ∙ ap narrow (s .before .wide-side .ensures)) i) ((c .narrow-normal2 .ensures ∙ ap narrow (s .wide-side2 .ensures)) i)
 
 in-general : tie.Need-returns-2
 unfolding screenSize side
 in-general c =
     let s = c .before .before .before .before in
-    λ i. size ((c .before .f64-to-f32 .ensures ∙ ap narrow (s .before .side .ensures)) i) ((c .f64-to-f322 .ensures ∙ ap narrow (s .side2 .ensures)) i)
+    λ i. size ((c .before .f64-to-f32 .ensures ∙ ap narrow (s .before .wide-side .ensures)) i) ((c .f64-to-f322 .ensures ∙ ap narrow (s .wide-side2 .ensures)) i)
 
 pub screen-size-spec : {M : Type 1} → statement M
 screen-size-spec =
