@@ -4,7 +4,8 @@
 //! Ours works on the sheet's bytes. *questions* is questions 1 to 7 alone (`sheet_check`), *with finder* a whole call with
 //! the sheet's own finder, *without* a whole call without one, *opening* the call that fills the finder. *asked* is a call
 //! with the own finder at depth 33, which number 10 refuses: it asks questions 1 to 7, compares the finder and plans
-//! nothing. So *plan* is the time with a finder less that of *asked*. The Rust plans on a prepared library. *build* reads
+//! nothing. So *plan* is the time with a finder less that of *asked*, and *questions + plan* is what the questions and it take
+//! without the comparison of the finder. `-` stands for what was not measured. The Rust plans on a prepared library. *build* reads
 //! the bytes (the judge's reader) and prepares that library, *Rust plan* is `PreparedLibrary::plan` of the unmodified copy
 //! alone.
 
@@ -162,22 +163,23 @@ fn row(large: &Large, input: &[u8], most: usize, walking: bool) -> Option<Row> {
         race.times[4].len()
     );
     for (least, median) in figures.into_iter().chain([plan]) {
-        line += &format!(" {least:.3} / {median:.3} |");
+        line += &if least.is_nan() { " - |".to_string() } else { format!(" {least:.3} / {median:.3} |") };
     }
     // A plan that is lost in the noise of the check has no ratio.
     let ratio = if plan.0 == 0.0 { "-".to_string() } else { format!("{:.2}", plan.0 / rust.0) };
     let checked = (questions.0 + plan.0) / (build.0 + rust.0);
-    line += &format!(" {ratio} | {checked:.2} | {share:.2} | {:.1} |", walked.0 / (build.0 + rust.0));
+    let walking = if walked.0.is_nan() { "-".to_string() } else { format!("{:.1}", walked.0 / (build.0 + rust.0)) };
+    line += &format!(" {ratio} | {checked:.2} | {share:.2} | {walking} |");
     let (plan, rust, bytes) = (plan.0, rust.0, race.bytes.len());
     Some(Row { name: large.name, seed: large.seed, line, share, plan, rust, checked, bytes })
 }
 
 /// The worst of some rows by a figure, as a bound: what it says, and whether it holds. None without a row.
-fn worst_of<'a>(rows: impl Iterator<Item = &'a Row>, figure: impl Fn(&Row) -> f64, says: &str, most: f64) -> Option<(String, bool)> {
+fn worst_of<'a>(rows: impl Iterator<Item = &'a Row>, figure: impl Fn(&Row) -> f64, says: &str, holds: impl Fn(f64) -> bool) -> Option<(String, bool)> {
     let rows: Vec<&Row> = rows.collect();
     let worst = rows.iter().max_by(|a, b| figure(a).total_cmp(&figure(b)))?;
-    let text = format!("{} {says} {most}: {:.2}, {} {}", rows.len(), figure(worst), worst.name, worst.seed);
-    Some((text, figure(worst) <= most))
+    let text = format!("{} {says}: {:.2}, {} {}", rows.len(), figure(worst), worst.name, worst.seed);
+    Some((text, holds(figure(worst))))
 }
 
 /// The bounds against the Rust's plan, over all rows on which that takes long enough, and against its build and plan, over
@@ -186,12 +188,16 @@ fn worst_of<'a>(rows: impl Iterator<Item = &'a Row>, figure: impl Fn(&Row) -> f6
 fn pace_bounds(rows: &[Row], whole: bool) -> Vec<(String, bool)> {
     let timed = || rows.iter().filter(|row| row.rust > TIMED);
     let slanted = |row: &&Row| row.name.starts_with("slanted");
-    let ratio = |row: &Row| row.plan / row.rust;
+    // A plan that is lost in the noise is no measurement.
+    let ratio = |row: &Row| if row.plan == 0.0 { f64::INFINITY } else { row.plan / row.rust };
+    let says = "the plan over the Rust's at most";
     let mut bounds = Vec::new();
-    bounds.extend(worst_of(timed().filter(|row| !slanted(row)), ratio, "sheets: the plan over the Rust's at most", 1.5));
-    bounds.extend(worst_of(timed().filter(slanted), ratio, "slanted sheets: the plan over the Rust's at most", 2.5));
+    let square = timed().filter(|row| !slanted(row));
+    bounds.extend(worst_of(square, ratio, &format!("sheets: {says} 1.5"), |worst| worst <= 1.5));
+    bounds.extend(worst_of(timed().filter(slanted), ratio, &format!("slanted sheets: {says} 2.5"), |worst| worst <= 2.5));
     let long = rows.iter().filter(|row| row.bytes > LONG);
-    bounds.extend(worst_of(long, |row| row.checked, "long sheets: questions + plan over the Rust's build + plan at most", 1.0));
+    let says = "long sheets: questions + plan over the Rust's build + plan below 1";
+    bounds.extend(worst_of(long, |row| row.checked, says, |worst| worst < 1.0));
     if whole {
         let (ahead, all) = (timed().filter(|row| ratio(row) <= 1.0).count(), timed().count());
         bounds.push((format!("the plan over the Rust's at most 1.0 on half of {all} sheets: {ahead}"), 2 * ahead >= all));

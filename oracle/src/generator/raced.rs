@@ -8,7 +8,7 @@ use super::rng::Rng;
 use crate::judge::call::MAX_DEPTH;
 use crate::sheet::{Query, Reference, Sheet, Source};
 
-pub const RACED: [Large; 7] = [
+pub const RACED: &[Large] = &[
     Large { name: "slanted batches of a grid", seed: 20_000, make: slanted_batches },
     Large { name: "slanted texts of a grid", seed: 10_000, make: slanted_texts },
     Large { name: "slanted node grid", seed: 20_000, make: slanted_nodes },

@@ -5,13 +5,13 @@ use crate::generator::encode::{grid, input, single};
 use crate::generator::rng::Rng;
 use crate::sheet::{Query, Sheet, Source};
 
-/// What a cell lists that comes next: b a batch, c one out of view, d a dense one, t a text, n a node of two points, o one out
-/// of view, r a reference to a text. A capital stands for a grid of three, the last out of view: B of the batch, T of the text,
+/// What a cell lists that comes next: b a batch, c one out of view, d a dense one, t a text, u one out of view, n a node of two
+/// points, o one out of view, p one of one point, r a reference to a text. A capital stands for a grid of three, the last out of view: B of the batch, T of the text,
 /// N of the node, D of a cell that is dense; and C for a cell that holds itself.
-const OBJECTS_NEXT: [&str; 7] = ["bb", "bt", "bo", "tt", "nn", "br", "B"];
-const TEXTS_NEXT: [&str; 6] = ["b", "tt", "to", "nn", "tr", "T"];
-const PROXIES_NEXT: [&str; 9] = ["b", "t", "n", "dc", "dt", "dn", "dr", "D", "C"];
-const BOTH_NEXT: [&str; 7] = ["bb", "bt", "bo", "nn", "br", "B", "N"];
+const OBJECTS_NEXT: [&str; 10] = ["bb", "bt", "bo", "tt", "nn", "br", "B", "b", "utt", "po"];
+const TEXTS_NEXT: [&str; 7] = ["b", "tt", "to", "nn", "tr", "T", "bb"];
+const PROXIES_NEXT: [&str; 11] = ["b", "t", "n", "dc", "dt", "dn", "dr", "D", "C", "tt", "nn"];
+const BOTH_NEXT: [&str; 8] = ["bb", "bt", "bo", "nn", "br", "B", "N", "tt"];
 
 /// The records that every case has, by the letters above.
 fn records() -> Sheet {
@@ -51,8 +51,10 @@ fn cells(sheet: &mut Sheet, letters: &str, last: u32, filling: Vec<u32>) {
             'd' => cell.batches.push(1),
             'c' => cell.batches.push(2),
             't' => cell.texts.push(0),
+            'u' => cell.texts.push(1),
             'n' => cell.nodes.push(0),
             'o' => cell.nodes.push(1),
+            'p' => cell.nodes.push(2),
             'r' => cell.references.push(last),
             _ => {}
         }
@@ -65,6 +67,12 @@ fn cells(sheet: &mut Sheet, letters: &str, last: u32, filling: Vec<u32>) {
 
 /// The root: what fills up to the limit, what comes next, and behind it a text, and one out of view.
 fn finish(mut sheet: Sheet, fill: Vec<u32>, letters: &str, filling: Vec<u32>, rng: &mut Rng) -> Vec<u8> {
+    if letters.contains('u') {
+        sheet.text(2, 1, [2e9, 5.0]);
+    }
+    if letters.contains('p') {
+        sheet.node(3, 2, &[[1.0, 1.0]]);
+    }
     let next = next(&mut sheet, letters);
     let last = sheet.reference(single(Source::Text(0), Some([5.0, 5.0, 5.0, 5.0])));
     let away = sheet.reference(single(Source::Text(0), Some([2e9, 5.0, 3e9, 5.0])));
