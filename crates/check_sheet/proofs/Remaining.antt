@@ -1,4 +1,4 @@
--- What the second pass has before it: the records from an offset on, of which question 7 asks the references and cells alone.
+-- What the second pass has before it: the records from an offset on. Question 7 is asked of the references and cells among them alone.
 -- Assumes nothing.
 use mathlib.Core.Path.{_≡_, refl, sym, ap, _∙_}
 use Prim.Native.Nat.{ℕ, _+_, _-_, _≤_, _<_}
@@ -25,7 +25,7 @@ use Rattle.check_sheet.specs.Valid.{AllNamed}
 use Rattle.check_sheet.proofs.Passes.{first-unnamed-pass, first-unnamed-stop, all-named-later}
 use Rattle.check_sheet.proofs.Passed.{tallied-next}
 
--- ---- How many records question 7 asks
+-- ---- Of how many records question 7 is asked
 
 -- how many references and cells there are among some records
 abbrev pub askedIn : List ℕ → List ℕ → ℕ
