@@ -7,6 +7,7 @@
 --     OutcomeTheorem    the outcome by code path, and by the run that writes
 --     Paths             the rules by code path, for proofs about code
 --     Memory            the lent scratch is the Rust's memory
+--     UnusedSites       document 02, paper 3
 -- Assumes nothing.
 pub mod Cases
 pub mod Simulation
@@ -16,3 +17,4 @@ pub mod Questions
 pub mod OutcomeTheorem
 pub mod Paths
 pub mod Memory
+pub mod UnusedSites

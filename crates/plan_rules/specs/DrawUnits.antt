@@ -5,7 +5,7 @@
 use mathlib.Core.Bool.{cond}
 use mathlib.Core.List.{List}
 use mathlib.Core.Option.{Option, none, some}
-use Prim.Native.Nat.{ℕ, zero, suc, _+_, _*_, max}
+use Prim.Native.Nat.{ℕ, zero, suc, _+_}
 use lib.ListN.{getD, set}
 use lib.Dec.{leb, eqb}
 use Rattle.grid.specs.Grid.{gridCount}
@@ -13,7 +13,7 @@ use Rattle.records.specs.declared.PreparedSource.{PreparedSource}
 use Rattle.records.specs.declared.PreparedSource.the-variants.{Geometry, Text, Node, Reference, Cell}
 use Rattle.records.specs.declared.PreparedReference.{PreparedReference}
 use Rattle.abstract_sheet.specs.Sheet.{CellRecord, Sheet}
-use Rattle.plan_rules.specs.Event.{saturate, _⊞_}
+use Rattle.plan_rules.specs.Event.{_⊞_, _⊠_}
 use Rattle.plan_rules.specs.Scratch.{countingPlace, rememberedPlace, countPlace, isMarked}
 
 -- a count, and the counts and the marks after it
@@ -25,9 +25,9 @@ pub record Units : Type 0 where
 abbrev pub counted : ℕ → List ℕ → List ℕ → Units
 counted n k m = record { units = n; counts = k; marks = m }
 
--- `count.saturating_mul(source_count.max(1))`
+-- `count.saturating_mul(source_count)`, where the Rust has `source_count.max(1)`. Document 02, paper 3: "A reference whose source counts 0 units shall count 0".
 abbrev pub scaled : ℕ → Units → Units
-scaled count u = counted (saturate (count * max (u .units) 1)) (u .counts) (u .marks)
+scaled count u = counted (count ⊠ u .units) (u .counts) (u .marks)
 
 -- `iter().fold(..)`: a step for each of `count` numbers from i on
 unfoldable pub fold : (ℕ → Units → Units) → ℕ → ℕ → Units → Units

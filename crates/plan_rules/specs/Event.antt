@@ -3,7 +3,7 @@
 -- Definitions only; rests on `Limits`, the fields' definitions and the declared types.
 use mathlib.Core.Bool.{Bool, cond}
 use mathlib.Core.List.{List, [], _∷_}
-use Prim.Native.Nat.{ℕ, zero, suc, _+_, min}
+use Prim.Native.Nat.{ℕ, zero, suc, _+_, _*_, min}
 use lib.Dec.{eqb}
 use Rattle.fields.specs.Field.{Field, uint, f64, widths, recordBytes}
 use Rattle.fields.specs.Head.{sizeWidth, kindWidth, headWidth}
@@ -84,6 +84,11 @@ infixl 60 _⊞_
 unfoldable pub _⊞_ : ℕ → ℕ → ℕ
 x ⊞ zero = x
 x ⊞ suc n = saturate (x + suc n)
+
+-- `saturating_mul`
+infixl 70 _⊠_
+abbrev pub _⊠_ : ℕ → ℕ → ℕ
+x ⊠ y = saturate (x * y)
 
 -- the fields of `ScenePlan` in their order
 abbrev pub scenePlan : ℕ → ℕ → ℕ → ℕ → ℕ → ℕ → ℕ → ℕ → ℕ → ScenePlan

@@ -1,16 +1,16 @@
--- Draw units as bevy_scene.rs has them: a map from a cell and a depth to a count, and a set of the cells being counted.
+-- Draw units over the memory that bevy_scene.rs has: a map from a cell and a depth to a count, and a set of the cells being counted.
 -- Only `MappedPlan` rests on this: proofs/Memory shows that a plan over the lent scratch is a plan over these.
 -- Definitions only. Assumes nothing.
 use mathlib.Core.Bool.{Bool, true, false, cond, _||_}
 use mathlib.Core.Option.{Option, none, some}
-use Prim.Native.Nat.{ℕ, zero, suc, _+_, _*_, max}
+use Prim.Native.Nat.{ℕ, zero, suc, _+_}
 use lib.Dec.{leb, eqb}
 use Rattle.grid.specs.Grid.{gridCount}
 use Rattle.records.specs.declared.PreparedSource.{PreparedSource}
 use Rattle.records.specs.declared.PreparedSource.the-variants.{Geometry, Text, Node, Reference, Cell}
 use Rattle.records.specs.declared.PreparedReference.{PreparedReference}
 use Rattle.abstract_sheet.specs.Sheet.{CellRecord, Sheet}
-use Rattle.plan_rules.specs.Event.{saturate, _⊞_}
+use Rattle.plan_rules.specs.Event.{_⊞_, _⊠_}
 
 -- `complexity_cache`, `complexity_stack`, `cell_stack`
 pub record Maps : Type 0 where
@@ -70,7 +70,7 @@ mappedCell visit depth n o w = orCached (w .cache n depth) w (freshCell visit de
 unfoldable pub mappedReferenceWith : ℕ → (PreparedSource → Maps → Tally) → PreparedReference → Maps → Tally
 mappedReferenceWith depth deeper r w =
     cond (eqb (gridCount (r .grid)) 0) (tally 0 w)
-    (let x = cond (leb depth 1) (tally 1 w) (deeper (r .source) w) in tally (saturate (gridCount (r .grid) * max (x .units) 1)) (x .maps))
+    (let x = cond (leb depth 1) (tally 1 w) (deeper (r .source) w) in tally (gridCount (r .grid) ⊠ x .units) (x .maps))
 
 -- a reference by number
 unfoldable pub mappedFound : (PreparedReference → Maps → Tally) → Option PreparedReference → Maps → Tally

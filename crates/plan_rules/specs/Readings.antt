@@ -15,6 +15,8 @@ use Rattle.geometry.specs.Bbox.{bbox}
 use Rattle.grid.specs.Grid.{gridCount}
 use Rattle.screen.specs.Screen.{screenSize, shouldCollapseReference}
 use Rattle.records.specs.declared.PreparedSource.the-variants.{Geometry, Cell}
+use Rattle.records.specs.declared.PreparedReference.{PreparedReference}
+use Rattle.abstract_sheet.specs.Sheet.{Sheet}
 use Rattle.plan_rules.specs.Limits.{maxSceneObjects}
 use Rattle.plan_rules.specs.Event.{Event, emptyPlan}
 use Rattle.plan_rules.specs.World.{Query, World, world}
@@ -27,15 +29,23 @@ use Rattle.plan_rules.specs.Samples.{whole, page, sheetOfLists, batchOf,
 
 -- ---- references
 
--- the members of a grid
-abbrev pub members : ℕ → ℕ → ℕ
-members columns rows = gridCount ((refer columns rows 0 0 (Cell 0) (page 1 1)) .grid)
+-- a grid of cell 0, and its members
+abbrev pub gridOfCell : ℕ → ℕ → PreparedReference
+gridOfCell columns rows = refer columns rows 0 0 (Cell 0) (page 1 1)
 
--- what a grid of a cell with so many units counts at depth 2, from zeroed scratch
+abbrev pub members : ℕ → ℕ → ℕ
+members columns rows = gridCount ((gridOfCell columns rows) .grid)
+
+-- a sheet of one cell with so many units
+abbrev pub cellWith : ℕ → Sheet
+cellWith units = sheetOfLists [] [] [] [] (cellOf units (page 1 1) [] [] [] [] ∷ [])
+
+-- what a grid of this cell counts at a depth, from zeroed scratch
+abbrev pub gridUnitsAt : ℕ → ℕ → ℕ → ℕ → ℕ
+gridUnitsAt depth columns rows units = (referenceDrawUnits (cellWith units) 1 depth (gridOfCell columns rows) (replicate (countsNamed 1 depth) 0) (replicate (marksNamed 1 depth) 0)) .units
+
 abbrev pub gridUnits : ℕ → ℕ → ℕ → ℕ
-gridUnits columns rows units =
-    (referenceDrawUnits (sheetOfLists [] [] [] [] (cellOf units (page 1 1) [] [] [] [] ∷ [])) 1 2 (refer columns rows 0 0 (Cell 0) (page 1 1)) (replicate (countsNamed 1 2) 0) (replicate (marksNamed 1 2) 0))
-    .units
+gridUnits = gridUnitsAt 2
 
 -- does it collapse at depth 2 and zoom 1, if its box is so wide and so high?
 abbrev pub referenceCollapses : ℕ → ℕ → ℕ → Float → Float → Bool
@@ -138,9 +148,13 @@ readings =
     -- "Fused (1 + 2^−52) × (1 − 2^−52) − 1 is −2^−104, not 0", which a plain product and sum give
     ∷ (fma binary64 above below minusOne ≡ fin true 1 (negsuc 103))
     ∷ (add binary64 (mul binary64 above below) minusOne ≡ fin false 0 (pos 0))
-    -- "A 2 × 3 grid of a cell with 0 units counts 6; zero columns count 0."
-    ∷ (gridUnits 2 3 0 ≡ 6)
+    -- "A 2 × 3 grid of a cell with 0 units counts 6", which document 02 changes to "0 at depth 2 and above"; "zero columns count 0"
+    ∷ (gridUnitsAt 1 2 3 0 ≡ 6)
+    ∷ ((depth : ℕ) → 2 ≤ depth → gridUnitsAt depth 2 3 0 ≡ 0)
     ∷ (gridUnits 0 3 0 ≡ 0)
+    -- "Readers find blocks of unused sites boxed as dense": 8,192 of them at 64 × 64 px are not, and with one unit each they are
+    ∷ (referenceCollapses 64 128 0 (whole 64) (whole 64) ≡ false)
+    ∷ (referenceCollapses 64 128 1 (whole 64) (whole 64) ≡ true)
     -- "Cells 0 (5 units) and 1 (7 units) refer to each other once: cell 0 at depth 3 counts 13 and remembers 8 for cell 1 at depth 2; fresh, that is 13."
     ∷ ((circleUnits 3 0) .units ≡ 13)
     ∷ (getD ((circleUnits 3 0) .marks) (rememberedPlace 2 2 1) 0 ≡ 1)

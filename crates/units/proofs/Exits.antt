@@ -5,7 +5,7 @@ use mathlib.Core.Path.{_≡_, sym, ap, _∙_}
 use mathlib.Core.Bool.{true, false}
 use mathlib.Core.List.{List}
 use mathlib.Core.Option.{some}
-use Prim.Native.Nat.{ℕ, _-_, _*_, _≤_, _<_, max}
+use Prim.Native.Nat.{ℕ, _-_, _≤_, _<_}
 use lib.ListN.{getD, set}
 use borrow.Author.Tests.{lt-leb, le-leb, eq-eqb, ne-eqb}
 use Rattle.grid.specs.Grid.{gridCount}
@@ -20,7 +20,7 @@ use Rattle.abstract_sheet.specs.Sheet.{cellRecordAt, references, cells}
 use Rattle.check_sheet.specs.declared.Counts.{Counts}
 use Rattle.look_up.specs.Look.{look, sheetWith}
 use Rattle.look_up.proofs.Looking.{item-looked}
-use Rattle.plan_rules.specs.Event.{saturate, _⊞_}
+use Rattle.plan_rules.specs.Event.{_⊞_, _⊠_}
 use Rattle.plan_rules.specs.Scratch.{countingPlace, rememberedPlace, countPlace, isMarked}
 use Rattle.plan_rules.specs.DrawUnits.{Units, counted, fold, addReferenceUnits, remember, referenceDrawUnits, numberedDrawUnits, sourceDrawUnits, cellDrawUnits}
 use Rattle.plan_rules.proofs.Paths.Counts as Paths
@@ -32,15 +32,15 @@ module _ (s f : List ℕ) (kinds : Counts) (depth : ℕ) (r : PreparedReference)
   reference-empty h = sym (Paths.units-empty (sheetWith s f kinds) (kinds .cells) depth r k m (eq-eqb _ _ (sym grid ∙ h)))
 
   module _ (members : count ≡ 0 → ⊥) where
-    pub reference-shallow : (units : ℕ) → depth ≤ 1 → units ≡ saturate (count * max 1 1) → counted units k m ≡ referenceDrawUnits (sheetWith s f kinds) (kinds .cells) depth r k m
+    pub reference-shallow : (units : ℕ) → depth ≤ 1 → units ≡ count ⊠ 1 → counted units k m ≡ referenceDrawUnits (sheetWith s f kinds) (kinds .cells) depth r k m
     reference-shallow units h e =
-        ap (λ (u : ℕ). counted u k m) (e ∙ ap (λ (g : ℕ). saturate (g * max 1 1)) grid)
+        ap (λ (u : ℕ). counted u k m) (e ∙ ap (λ (g : ℕ). g ⊠ 1) grid)
         ∙ sym (Paths.units-shallow (sheetWith s f kinds) (kinds .cells) depth r k m (ne-eqb _ _ (λ z. members (grid ∙ z))) (le-leb _ _ h))
 
     pub reference-deep : (sourceCount units : ℕ) (k′ m′ : List ℕ)
         → 1 < depth
         → counted sourceCount k′ m′ ≡ sourceDrawUnits (sheetWith s f kinds) (kinds .cells) (depth - 1) (r .source) k m
-        → units ≡ saturate (count * max sourceCount 1)
+        → units ≡ count ⊠ sourceCount
         → counted units k′ m′ ≡ referenceDrawUnits (sheetWith s f kinds) (kinds .cells) depth r k m
     reference-deep sourceCount units k′ m′ h source e =
         rw (Paths.units-deep (sheetWith s f kinds) (kinds .cells) depth r k m (ne-eqb _ _ (λ z. members (grid ∙ z))) (lt-leb _ _ h), ← source, ← grid, ← e)

@@ -10,7 +10,7 @@ use records::PreparedSource;
 use scratch::COMPLEXITY_STACK;
 use walk::Found;
 
-mod totals; // products that stop at 2^64 - 1, and a member's share of one
+mod totals; // a product that stops at 2^64 - 1, and a member's share of one
 
 pub use totals::source_units;
 
@@ -30,11 +30,11 @@ pub fn reference_draw_units(
         return 0;
     }
     if depth <= 1 {
-        return totals::scaled(count, 1);
+        return totals::saturating_mul(count, 1);
     }
     let source = reference.source;
     let source_count = source_draw_units(sheet, finder, kinds, counts, marks, source, depth - 1);
-    totals::scaled(count, source_count)
+    totals::saturating_mul(count, source_count)
 }
 
 // The same of the reference that a number names.

@@ -13,6 +13,7 @@ use crate::events::{Event, Limits, Run, Settings};
 use crate::generator::query::near;
 use crate::generator::rng::Rng;
 use crate::generator::square::{Shape, with_true_boxes};
+use crate::generator::unused::unused_sites;
 use crate::sheet::{Query, Sheet};
 use paths::Paths;
 
@@ -57,8 +58,18 @@ fn limits(rng: &mut Rng) -> Limits {
     Limits { cells: most(1, 5), objects: most(1, 8), texts: most(1, 5), proxies: most(1, 4) }
 }
 
-fn query(rng: &mut Rng, sheet: &Sheet) -> Query {
-    let mut query = near(rng, sheet);
+/// One sheet in four has fields of unused sites, the others anything.
+fn pair(rng: &mut Rng, seed: u64) -> (Query, Sheet) {
+    if seed % 4 == 3 {
+        return unused_sites(rng);
+    }
+    let shape = shape(rng);
+    let sheet = with_true_boxes(rng, &shape);
+    (near(rng, &sheet), sheet)
+}
+
+/// The query with views and zooms from farther away too, and a view of whole numbers.
+fn widened(rng: &mut Rng, mut query: Query) -> Query {
     if rng.chance(1, 6) {
         query.zoom = 2f64.powi(rng.range(-12, 64) as i32);
     }
@@ -89,13 +100,12 @@ fn shown(run: &Run) -> BTreeSet<&'static str> {
 /// One sheet by its seed: the fault, if any.
 fn one(plan: PlanFn, seed: u64, tally: &mut Tally) {
     let mut rng = Rng::new(seed ^ 0x00c0_ffee);
-    let shape = shape(&mut rng);
-    let sheet = with_true_boxes(&mut rng, &shape);
+    let (query, sheet) = pair(&mut rng, seed);
     if !exact::is_square(&sheet) || !exact::has_true_boxes(&sheet) {
         tally.passed_over += 1;
         return;
     }
-    let query = query(&mut rng, &sheet);
+    let query = widened(&mut rng, query);
     let limits = limits(&mut rng);
     // Two members beyond the depth: what lies deeper lies in the same boxes.
     let Some(paths) = Paths::of(&sheet, query.root, query.depth.min(8) as usize + 2, MOST_PATHS) else {

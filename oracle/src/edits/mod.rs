@@ -161,8 +161,13 @@ pub const SUBSTITUTIONS: &[Edit] = &[
     },
 ];
 
-/// Lines that a change request alters in the judge itself, made in both copies. None yet.
-pub const ALTERATIONS: &[Edit] = &[];
+/// Lines that a change request alters in the judge itself, made in both copies.
+pub const ALTERATIONS: &[Edit] = &[Edit {
+    why: "document 02, paper 3: a reference whose source counts 0 units counts 0",
+    count: 1,
+    find: "count.saturating_mul(source_count.max(1))",
+    put: "count.saturating_mul(source_count)",
+}];
 
 #[allow(dead_code)]
 /// Applies the edits in order; each must meet exactly its count of places.

@@ -13,6 +13,7 @@ pub mod raced;
 pub mod refusals;
 pub mod rng;
 pub mod square;
+pub mod unused;
 pub mod wide;
 
 use families::Pair;
@@ -67,6 +68,7 @@ pub const FAMILIES: &[Family] = &[
     pair("long-lists", long::long_lists),
     pair("many-hidden", long::many_hidden),
     pair("many-cells", long::many_cells),
+    pair("unused-sites", unused::unused_sites),
 ];
 
 /// The input of one family at one seed.

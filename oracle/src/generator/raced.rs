@@ -1,5 +1,5 @@
-//! Sheets that are only raced (`bench/plan/run`): slanted ones, 16 MiB of texts, proxies of a reference each, and a descent
-//! to the greatest depth. They are no stored cases.
+//! Sheets that are only raced (`bench/plan/run`): slanted ones, 16 MiB of texts, proxies of a reference each, a descent to the
+//! greatest depth, and fields of unused sites. They are no stored cases.
 
 use super::boxes::grow_true_boxes;
 use super::encode::{grid, input_with, single};
@@ -16,6 +16,9 @@ pub const RACED: &[Large] = &[
     Large { name: "bytes of texts", seed: 16_777_216, make: bytes_of_texts },
     Large { name: "proxies of a reference each", seed: 100_000, make: proxies_of_references },
     Large { name: "descent of full cells", seed: 48, make: full_descent },
+    Large { name: "unused sites, skipped", seed: 8_192, make: unused_skipped },
+    Large { name: "unused sites, boxed", seed: 8_192, make: unused_boxed },
+    Large { name: "unused sites, entered", seed: 8_192, make: unused_entered },
 ];
 
 /// A turn by the angle of the triangle of 3, 4 and 5: neither cosine nor sine is 0, 1 or -1.
@@ -114,4 +117,26 @@ fn full_descent(rng: &mut Rng, levels: u64) -> Vec<u8> {
         }
     }
     finish(sheet, Query { zoom: 40.0, ..wide(MAX_DEPTH) }, rng)
+}
+
+/// One field of sites that count 0, each a frame of so many pixels.
+fn unused(rng: &mut Rng, sites: u64, pixels: f64) -> Vec<u8> {
+    let mut sheet = Sheet::default();
+    let frame = Some([0.0, 0.0, 1.0, 1.0]);
+    let field = sheet.reference(grid(Source::Cell(1), frame, (64, (sites / 64) as u16), [1.0, 1.0]));
+    sheet.cell(0, None).references.push(field);
+    sheet.cell(0, frame);
+    finish(sheet, Query { zoom: pixels, ..wide(4) }, rng)
+}
+
+fn unused_skipped(rng: &mut Rng, sites: u64) -> Vec<u8> {
+    unused(rng, sites, 0.9)
+}
+
+fn unused_boxed(rng: &mut Rng, sites: u64) -> Vec<u8> {
+    unused(rng, sites, 2.0)
+}
+
+fn unused_entered(rng: &mut Rng, sites: u64) -> Vec<u8> {
+    unused(rng, sites, 24.0)
 }

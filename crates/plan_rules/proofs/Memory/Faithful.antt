@@ -5,7 +5,7 @@ use mathlib.Core.Path.{_≡_, refl, sym, ap, _∙_, subst}
 use mathlib.Core.Bool.{Bool, true, false, cond, not}
 use mathlib.Core.List.{List}
 use mathlib.Core.Option.{Option, none, some}
-use Prim.Native.Nat.{ℕ, zero, suc, _+_, _-_, _*_, _≤_, _<_, max}
+use Prim.Native.Nat.{ℕ, zero, suc, _+_, _-_, _*_, _≤_, _<_}
 use native.Mathlib.Omega.{arith}
 use lib.ListN.{length, getD, set, length-set, replicate, length-replicate, getD-replicate}
 use lib.Seq.{getD-set-same, getD-set-other}
@@ -16,7 +16,7 @@ use Rattle.records.specs.declared.PreparedSource.{PreparedSource}
 use Rattle.records.specs.declared.PreparedSource.the-variants.{Geometry, Text, Node, Reference, Cell}
 use Rattle.records.specs.declared.PreparedReference.{PreparedReference}
 use Rattle.abstract_sheet.specs.Sheet.{CellRecord, Sheet}
-use Rattle.plan_rules.specs.Event.{saturate, _⊞_}
+use Rattle.plan_rules.specs.Event.{_⊞_, _⊠_}
 use Rattle.plan_rules.specs.Scratch.{place, isMarked}
 use Rattle.plan_rules.specs.DrawUnits.{Units, counted, scaled, fold, referenceDrawUnitsWith, foundDrawUnits, addReferenceUnits, remember, cellDrawUnitsWith, sourceDrawUnitsWith, referenceDrawUnits, numberedDrawUnits}
 use Rattle.plan_rules.specs.Maps.{Maps, emptyMaps, stacked, opened, cached, Tally, tally, foldMaps, addMapped, mapOrOne, freshCell, mappedCell, mappedReferenceWith, mappedFound, mappedSource, mappedReference}
@@ -243,10 +243,10 @@ module _ (n D : ℕ) where
       where
         by : (b t : Bool)
             → let y = cond t (tally 1 w) (walk (r .source) w) in
-            Same n D (cond b (counted 0 k m) (cond t (scaled (gridCount (r .grid)) (counted 1 k m)) (scaled (gridCount (r .grid)) (visit (r .source) k m)))) (cond b (tally 0 w) (tally (saturate (gridCount (r .grid) * max (y .units) 1)) (y .maps)))
+            Same n D (cond b (counted 0 k m) (cond t (scaled (gridCount (r .grid)) (counted 1 k m)) (scaled (gridCount (r .grid)) (visit (r .source) k m)))) (cond b (tally 0 w) (tally (gridCount (r .grid) ⊠ y .units) (y .maps)))
         by true t = record { units = refl; agree = a }
         by false true = record { units = refl; agree = a }
-        by false false = record { units = ap (λ (u : ℕ). saturate (gridCount (r .grid) * max u 1)) (hv (r .source) k m w a .units); agree = hv (r .source) k m w a .agree }
+        by false false = record { units = ap (λ (u : ℕ). gridCount (r .grid) ⊠ u) (hv (r .source) k m w a .units); agree = hv (r .source) k m w a .agree }
 
     found-same : (visit : PreparedReference → List ℕ → List ℕ → Units) (walk : PreparedReference → Maps → Tally) → ((r : PreparedReference) (k m : List ℕ) (w : Maps) → Agree n D k m w → Same n D (visit r k m) (walk r w))
         → (o : Option PreparedReference) (k m : List ℕ) (w : Maps) → Agree n D k m w → Same n D (foundDrawUnits visit o k m) (mappedFound walk o w)

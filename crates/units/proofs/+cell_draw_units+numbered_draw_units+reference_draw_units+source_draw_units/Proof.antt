@@ -66,11 +66,11 @@ pub +cell-draw-units+numbered-draw-units+reference-draw-units+source-draw-units-
     (λ t. reference-lts.spec (reference-claims t) (reference-at t) reference.Post
     (λ c κs. search needs)  -- grid-count-requires
     (Reference.empty t)
-    (λ c κs. search needs)  -- scaled-requires
+    (λ c κs. search needs)  -- saturating-mul-requires
     (Reference.shallow t)
     (λ c. search needs)  -- sub-source-draw-units
     (λ c κs. search needs)  -- source-draw-units-requires
-    (λ c κs. search needs)  -- scaled-requires-2
+    (λ c κs. search needs)  -- saturating-mul-requires-2
     (λ c. search needs)  -- same-length
     (λ c. search needs)  -- same-length-2
     (Reference.deep t))

@@ -17,16 +17,7 @@ fn counted(direct: u64, inner: impl FnOnce(&mut Sheet) -> Vec<u32>) -> Sheet {
 }
 
 pub fn units(edges: &mut Edges) {
-    for direct in [121, 122] {
-        let sheet = counted(direct, |sheet| {
-            sheet.cell(0, None);
-            vec![sheet.reference(grid(Source::Cell(2), None, (2, 3), [1.0, 1.0]))]
-        });
-        for depth in [2, 3, 4] {
-            let label = format!("{direct} units and a 2 x 3 grid of a cell with 0, depth {depth}");
-            add(edges, label, wide(depth), sheet.clone());
-        }
-    }
+    unused(edges);
     for (shape, direct) in [((0, 3), 127), ((3, 0), 127), ((0, 0), 128), ((1, 1), 126), ((1, 1), 127)] {
         let sheet = counted(direct, |sheet| {
             sheet.cell(90, None);
@@ -62,6 +53,78 @@ pub fn units(edges: &mut Edges) {
     }
     saturation(edges);
     shares(edges);
+    block_of_unused_sites(edges);
+}
+
+/// Sources that count 0: a reference of them counts 0 from depth 2 on, and one a member at depth 1.
+fn unused(edges: &mut Edges) {
+    let nothing = Source::Cell(2);
+    let two_by_three = |source| grid(source, None, (2, 3), [1.0, 1.0]);
+    for direct in [121, 122, 127] {
+        let sheet = counted(direct, |sheet| {
+            sheet.cell(0, None);
+            vec![sheet.reference(two_by_three(nothing))]
+        });
+        for depth in [2, 3, 4, 32] {
+            let label = format!("{direct} units and a 2 x 3 grid of a cell with 0, depth {depth}");
+            add(edges, label, wide(depth), sheet.clone());
+        }
+    }
+    for depth in [3, 4, 5] {
+        let sheet = counted(127, |sheet| {
+            sheet.cell(0, None);
+            let inner = sheet.reference(two_by_three(nothing));
+            vec![sheet.reference(two_by_three(Source::Reference(inner)))]
+        });
+        add(edges, format!("127 units and an inner 2 x 3 grid of a cell with 0, depth {depth}"), wide(depth), sheet);
+    }
+    let sheet = counted(127, |sheet| {
+        let inner = sheet.reference(grid(Source::Cell(77), None, (0, 3), [1.0, 1.0]));
+        vec![sheet.reference(single(Source::Reference(inner), None))]
+    });
+    add(edges, "127 units and an inner grid of 0 x 3", wide(4), sheet);
+    let sheet = counted(127, |sheet| {
+        sheet.cell(0, None);
+        vec![sheet.reference(single(nothing, None)), sheet.reference(single(nothing, None))]
+    });
+    add(edges, "127 units and twice a cell with 0", wide(4), sheet);
+    let sheet = counted(127, |sheet| {
+        let inner = sheet.reference(single(Source::Cell(3), None));
+        sheet.cell(0, None).references.push(inner);
+        sheet.cell(1, None);
+        vec![sheet.reference(single(nothing, None))]
+    });
+    add(edges, "127 units and a cell with 0 that holds one with 1", wide(4), sheet);
+    for direct in [126, 127] {
+        let sheet = counted(direct, |sheet| {
+            let batch = sheet.batch(0, 0, 0, [0.0, 0.0, 1.0, 1.0]);
+            vec![sheet.reference(single(Source::Batch(batch), None))]
+        });
+        add(edges, format!("{direct} units and a batch of no elements by reference"), wide(4), sheet);
+    }
+}
+
+/// A block that holds a field of 26 x 26 sites, each a frame and nothing else, beside two cells that draw. With a unit a site
+/// the block is dense at zoom 0.24, where a site is under one pixel, and the field at zoom 0.8.
+fn block_of_unused_sites(edges: &mut Edges) {
+    let mut sheet = Sheet::default();
+    let (frame, used) = (Some([0.0, 0.0, 4.0, 4.0]), [0.0, 0.0, 128.0, 128.0]);
+    let field = sheet.reference(grid(Source::Cell(2), frame, (26, 26), [4.0, 4.0]));
+    let mut array = grid(Source::Cell(3), Some(used), (1, 2), [0.0, 128.0]);
+    array.origin = [104.0, 0.0];
+    let array = sheet.reference(array);
+    let side = Some([0.0, 0.0, 232.0, 256.0]);
+    let block = sheet.reference(single(Source::Cell(1), side));
+    let (batch, text) = (sheet.batch(1, 0, 1, used), sheet.text(2, 0, [64.0, 64.0]));
+    sheet.cell(0, side).references.push(block);
+    sheet.cell(0, side).references = vec![field, array];
+    sheet.cell(0, frame);
+    let cell = sheet.cell(2, Some(used));
+    (cell.batches, cell.texts) = (vec![batch], vec![text]);
+    for (zoom, depth) in [(0.24, 2), (0.24, 4), (0.8, 4), (6.0, 4)] {
+        let label = format!("block of 676 unused sites and two cells, zoom {zoom}, depth {depth}");
+        add(edges, label, Query { zoom, ..wide(depth) }, sheet.clone());
+    }
 }
 
 /// Counts that stop at 2^64 - 1 instead of wrapping to little.

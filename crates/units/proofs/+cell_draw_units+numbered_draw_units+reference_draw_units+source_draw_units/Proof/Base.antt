@@ -17,7 +17,7 @@ use Rattle.scratch.proofs.cache_insert.Reads as cache-insert-reads
 use Rattle.scratch.proofs.stack_contains.Reads as stack-contains-reads
 use Rattle.scratch.proofs.stack_insert.Reads as stack-insert-reads
 use Rattle.scratch.proofs.stack_remove.Reads as stack-remove-reads
-use Rattle.units.proofs.totals.scaled.Reads as scaled-reads
+use Rattle.units.proofs.totals.saturating_mul.Reads as saturating-mul-reads
 use Rattle.units.proofs.cell_draw_units.Reads as cell
 use Rattle.units.proofs.cell_draw_units.Kinds as cell-kinds
 use Rattle.units.proofs.+cell_draw_units+numbered_draw_units+reference_draw_units+source_draw_units.Lts-cell_draw_units as cell-lts
@@ -80,7 +80,7 @@ abbrev pub numbered-claims : ℕ → numbered-lts.Claims
 numbered-claims t = (look-up-reads.Asked, look-up-reads.Learnt, reference-at-reads.Asked, reference-at-reads.Learnt, reference-below t, reference.Post)
 
 abbrev pub reference-claims : ℕ → reference-lts.Claims
-reference-claims t = (grid-count-reads.Asked, grid-count-reads.Learnt, scaled-reads.Asked, scaled-reads.Learnt, source-below t, source.Post)
+reference-claims t = (grid-count-reads.Asked, grid-count-reads.Learnt, saturating-mul-reads.Asked, saturating-mul-reads.Learnt, source-below t, source.Post)
 
 abbrev pub source-claims : ℕ → source-lts.Claims
 source-claims t = (cell-below t, cell.Post, numbered-below t, numbered.Post)

@@ -21,7 +21,7 @@ module _ (t : ℕ) where
       let start = after-grid-count .before .before .before .before .before in
       Exits.reference-shallow (start .args .sheet .now) (start .args .finder .now) (start .args .kinds) (start .args .depth) (start .args .reference) (start .args .counts .now) (start .args .marks .now)
       (after-grid-count .grid-count .result) (after-grid-count .grid-count .ensures) (after-if1 .if1 .left)
-      (c .scaled .result) (after-if2 .if2 .taken) (c .scaled .ensures)
+      (c .saturating-mul .result) (after-if2 .if2 .taken) (c .saturating-mul .ensures)
 
   pub deep : lts.Need-returns-3 (reference-claims t) (reference-at t) reference.Post
   deep c =
@@ -32,4 +32,4 @@ module _ (t : ℕ) where
       let start = after-grid-count .before .before .before .before .before in
       Exits.reference-deep (start .args .sheet .now) (start .args .finder .now) (start .args .kinds) (start .args .depth) (start .args .reference) (start .args .counts .now) (start .args .marks .now)
       (after-grid-count .grid-count .result) (after-grid-count .grid-count .ensures) (after-if1 .if1 .left)
-      (after-source-draw-units .source-draw-units .result) (c .scaled2 .result) _ _ (after-if2 .if2 .left) (after-source-draw-units .source-draw-units .ensures) (c .scaled2 .ensures)
+      (after-source-draw-units .source-draw-units .result) (c .saturating-mul2 .result) _ _ (after-if2 .if2 .left) (after-source-draw-units .source-draw-units .ensures) (c .saturating-mul2 .ensures)
