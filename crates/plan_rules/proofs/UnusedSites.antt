@@ -15,7 +15,7 @@ use Rattle.abstract_sheet.specs.Sheet.{CellRecord}
 use Rattle.plan_rules.specs.Event.{saturate, _⊠_}
 use Rattle.plan_rules.specs.DrawUnits.{Units, referenceDrawUnits, cellDrawUnits}
 use Rattle.plan_rules.specs.Visit.{sourceUnits}
-use Rattle.plan_rules.specs.UnusedSites.{UnusedSitesCountNothing, OneAMemberAtDepthOne, MissingCellCountsOne, OpenCircleCountsOne, ShareAtLeastOne, NothingIsNeverDense}
+use Rattle.plan_rules.specs.UnusedSites.{UnusedSitesCountNothing, OneAMemberAtDepthOne, MissingCellCountsOne, OpenCircleCountsOne, ItemCountsOne, ShareAtLeastOne, NothingIsNeverDense}
 use Rattle.plan_rules.proofs.Paths.Counts as Counts
 
 -- ---- the count
@@ -51,6 +51,9 @@ open-circle-counts-one S cells depth n k m fresh counting = by (S .cell n) refl 
     by none e b a = missing-cell-counts-one S cells depth n k m e
     by (some c) e true a = ap unitsOf (Counts.units-depth-zero S cells depth n k m c e a)
     by (some c) e false a = ap unitsOf (Counts.units-circle S cells depth n k m c e a fresh counting)
+
+pub item-counts-one : ItemCountsOne
+item-counts-one S cells depth n k m = (ap unitsOf (Counts.units-geometry S cells depth n k m), ap unitsOf (Counts.units-text S cells depth n k m), ap unitsOf (Counts.units-node S cells depth n k m))
 
 -- ---- what rests on it
 

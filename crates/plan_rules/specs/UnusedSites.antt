@@ -7,7 +7,8 @@ use mathlib.Core.Option.{none}
 use Prim.Native.Nat.{ℕ, _-_, _≤_, _<_}
 use lib.Ieee.{Float, lt}
 use Rattle.grid.specs.Grid.{gridCount}
-use Rattle.screen.specs.Screen.{refLoadThresholdPx, shouldCollapseReference}
+use Rattle.screen.specs.Screen.{refLoadThresholdPx, refMaxGridExpansion, shouldCollapseReference}
+use Rattle.records.specs.declared.PreparedSource.the-variants.{Geometry, Text, Node}
 use Rattle.records.specs.declared.PreparedReference.{PreparedReference}
 use Rattle.abstract_sheet.specs.Sheet.{Sheet}
 use Rattle.plan_rules.specs.Event.{saturate}
@@ -33,6 +34,11 @@ abbrev pub OpenCircleCountsOne : Type 0
 OpenCircleCountsOne = (S : Sheet) (cells depth n : ℕ) (k m : List ℕ)
     → isMarked m (rememberedPlace cells depth n) ≡ false → isMarked m (countingPlace cells n) ≡ true → (cellDrawUnits S cells depth n k m) .units ≡ 1
 
+-- A batch, text or node as a source counts one as before: the paper leaves it alone.
+abbrev pub ItemCountsOne : Type 0
+ItemCountsOne = (S : Sheet) (cells depth n : ℕ) (k m : List ℕ)
+    → ((sourceDrawUnits S cells depth (Geometry n) k m) .units ≡ 1) × ((sourceDrawUnits S cells depth (Text n) k m) .units ≡ 1) × ((sourceDrawUnits S cells depth (Node n) k m) .units ≡ 1)
+
 -- "the share of one member (still at least 1)"
 abbrev pub ShareAtLeastOne : Type 0
 ShareAtLeastOne = (units count : ℕ) → 1 ≤ sourceUnits units count
@@ -40,5 +46,5 @@ ShareAtLeastOne = (units count : ℕ) → 1 ≤ sourceUnits units count
 -- "All that rests on the count follows: collapse": a reference of 0 units, or a member of one, is boxed for its depth, its sides or its members, and never as dense
 abbrev pub NothingIsNeverDense : Type 0
 NothingIsNeverDense = (w h : Float) (members depth count : ℕ)
-    → lt w refLoadThresholdPx || lt h refLoadThresholdPx ≡ false → members ≤ 8192 → 1 < depth
+    → lt w refLoadThresholdPx || lt h refLoadThresholdPx ≡ false → members ≤ refMaxGridExpansion → 1 < depth
     → (shouldCollapseReference w h members 0 depth false ≡ false) × (shouldCollapseReference w h 1 (sourceUnits 0 count) depth false ≡ false)

@@ -69,6 +69,9 @@ FACTS = [
     ("the same with 200 draw units that have no box", "root=1 depth=8 view=0,0,99,99 zoom=1",
      SHAPE % (40, 40) + "reference source=cell:9 at=0,0 columns=20 rows=10\ncell batches=0 references=0\n"
      "reference source=cell:0 at=0,0\ncell references=1", "proxy 0, totals 1 0 0 0 0 0"),
+    ("the same with 200 empty cells in their place", "root=2 depth=8 view=0,0,99,99 zoom=1",
+     SHAPE % (40, 40) + "cell\nreference source=cell:0 at=0,0 columns=20 rows=10\ncell batches=0 references=0\n"
+     "reference source=cell:1 at=0,0\ncell references=1", "batch 0, totals 2 1 0 0 0 0"),
     ("a reference to a cell without a box", ROOT_1, TEXT + "cell box=none texts=0\nreference source=cell:0 at=0,0\ncell references=0",
      "totals 1 0 0 0 0 0"),
     ("the same with a source box by hand", ROOT_1,
@@ -123,10 +126,20 @@ def try_zoom(plan):
 
 
 def try_page(plan):
-    """The page shows the plan of samples/outcomes.txt whole, as an indented block."""
-    found = printed(plan, file_text("samples", "outcomes.txt"))
-    block = "".join("    %s\n" % line for line in found.splitlines())
-    same("the plan in docs/SHEETS.md", block in file_text("docs", "SHEETS.md"), True)
+    """The page shows the plans of two samples whole, as indented blocks."""
+    for sample in ("outcomes.txt", "sites.txt"):
+        found = printed(plan, file_text("samples", sample))
+        block = "".join("    %s\n" % line for line in found.splitlines())
+        same("the plan of %s in docs/SHEETS.md" % sample, block in file_text("docs", "SHEETS.md"), True)
+
+
+def try_sites(plan):
+    """The field of samples/sites.txt at two more zooms: its sites of 3 pixels are boxed one by one, those of 24 entered."""
+    sample = file_text("samples", "sites.txt")
+    for zoom, proxies, totals in (("1", 4096, "totals 8 12 0 0 0 0"), ("8", 0, "totals 4104 12 0 0 0 0")):
+        lines = printed(plan, sample.replace("zoom=0.25", "zoom=" + zoom)).splitlines()
+        same("boxed sites at zoom " + zoom, sum(line.startswith("proxy 0 ") for line in lines), proxies)
+        same("totals at zoom " + zoom, lines[-1], totals)
 
 
 def run(plan):
@@ -134,3 +147,4 @@ def run(plan):
     try_facts(plan)
     try_zoom(plan)
     try_page(plan)
+    try_sites(plan)
