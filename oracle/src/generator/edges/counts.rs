@@ -161,10 +161,12 @@ fn shares(edges: &mut Edges) {
     let mut sheet = block(0, [24.0, 24.0], (16, 8));
     sheet.references[0].spacing_x = [1000.0, 0.0];
     add(edges, "128 members of a cell with 0 units", wide(3), sheet);
-    let mut sheet = block(0, [24.0, 24.0], (16, 8));
-    sheet.references[0].spacing_x = [1.0, 0.0];
-    sheet.references[0].spacing_y = [0.0, 1.0];
-    add(edges, "128 members of a cell with 0 units, close", wide(3), sheet);
+    for units in [0, 1] {
+        let mut sheet = block(units, [24.0, 24.0], (16, 8));
+        sheet.references[0].spacing_x = [1.0, 0.0];
+        sheet.references[0].spacing_y = [0.0, 1.0];
+        add(edges, format!("128 members of a cell with {units} units, close"), wide(3), sheet);
+    }
 }
 
 /// "Cells 0 and 1 refer to each other once": what is remembered decides whether the second reference collapses.

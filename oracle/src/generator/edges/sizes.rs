@@ -49,6 +49,9 @@ pub fn density(edges: &mut Edges) {
     let huge = Query { view: [0.0, 0.0, 1e30, 1e30], ..wide(3) };
     add(edges, "reference of 128 units, area not finite", huge.clone(), block(128, [1e20, 1e20], (1, 1)));
     add(edges, "reference of 2^64 - 1 units, area finite", huge.clone(), block(u64::MAX, [1e10, 1e10], (1, 1)));
+    // 32 square pixels for each; 16 where the product of 1 and 2^63 stops.
+    let side = 2f64.powi(34);
+    add(edges, "reference of 2^63 units at 2^34 x 2^34 px", huge.clone(), block(1 << 63, [side, side], (1, 1)));
     let mut sheet = Sheet::default();
     let batch = sheet.batch(0, 0, u32::MAX, [0.0, 0.0, 1e20, 1e20]);
     sheet.cell(0, None).batches.push(batch);
