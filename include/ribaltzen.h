@@ -27,7 +27,7 @@ extern "C" {
 #define RIBALTZEN_VERSION_MAJOR 0
 #define RIBALTZEN_VERSION_MINOR 3
 #define RIBALTZEN_VERSION_PATCH 0
-#define RIBALTZEN_VERSION "0.3.0"
+#define RIBALTZEN_VERSION "0.4.0"
 
 /* What the functions return: 0, else the refusal's number. ribaltzen_refusal has the question answered "no". */
 enum {

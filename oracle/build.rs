@@ -1,5 +1,5 @@
-//! Takes the planner's text from the Rust source and writes the copies of it into OUT_DIR: one unmodified, one
-//! instrumented, one with all planted mistakes, each behind a switch. Every piece and edit is asserted.
+//! Takes the planner's text from the Rust source and writes the copies of it into OUT_DIR: one plain (with
+//! substitutions and alterations alone), one instrumented, one with all planted mistakes, each behind a switch. Every piece and edit is asserted.
 //! The source is found by GDSR_SOURCE, else at ../../shared/docs/src beside the repository. Where it is absent the
 //! build goes on without a planner, and every subcommand that plans says so.
 //! With the feature `library` the static libraries of the Rattle planner are linked, from RIBALTZEN_LIBRARY or else
@@ -82,12 +82,12 @@ fn with_source(package: &Path, source: &Path) -> String {
     let taken = apply(&taken, ALTERATIONS, "alterations");
     let standins = ours("variant/standins.rs");
     let glue = ours("variant/glue.rs");
-    let unmodified = [PRELUDE, &standins, &taken, &glue, &ours("variant/unmodified.rs")].join("\n");
+    let plain = [PRELUDE, &standins, &taken, &glue, &ours("variant/plain.rs")].join("\n");
     let instrumented = apply(&taken, INSTRUMENT, "instrumented copy");
     let instrumented =
         [PRELUDE, &standins, &instrumented, &glue, &ours("variant/instrumented.rs")].join("\n");
     let mut text = String::new();
-    writeln!(text, "pub mod unmodified {{\n{unmodified}\n}}").unwrap();
+    writeln!(text, "pub mod plain {{\n{plain}\n}}").unwrap();
     writeln!(text, "pub mod instrumented {{\n{instrumented}\n}}").unwrap();
     writeln!(text, "pub mod planted {{\n{}\n}}", planted_copies(&instrumented, Place::Planner)).unwrap();
     writeln!(text, "pub mod planted_judge {{\n#![allow(dead_code, unused_variables, unused_parens)]").unwrap();
@@ -100,9 +100,9 @@ fn with_source(package: &Path, source: &Path) -> String {
 
 const COPIES: &str = "}
 pub static COPIES: Option<Copies> = Some(Copies {
-    unmodified: unmodified::plan_lists,
-    timed: unmodified::plan_timed,
-    draw_units: unmodified::draw_units,
+    plain: plain::plan_lists,
+    timed: plain::plan_timed,
+    draw_units: plain::draw_units,
     instrumented: instrumented::plan_run,
     planted: planted::plan_run,
     planted_judge: Judge {

@@ -51,9 +51,9 @@ pub enum End {
 
 /// Plans an accepted sheet and query.
 pub type PlanFn = fn(&Sheet, &Query, Settings) -> Run;
-/// The same, as the unmodified copy answers it.
+/// The same, as the plain copy answers it.
 pub type ListsFn = fn(&Sheet, &Query) -> Lists;
-/// Times of the unmodified copy: preparing the library, and `plan` on it.
+/// Times of the plain copy: preparing the library, and `plan` on it.
 pub type TimedFn = fn(&Sheet, &Query) -> [Duration; 2];
 /// Counts of cells at depths, asked of one planner in turn.
 pub type UnitsFn = fn(&Sheet, &[(u32, u32)]) -> Vec<u64>;
@@ -74,7 +74,7 @@ pub struct Judge {
 /// The copies that build.rs makes. A planted copy has the mistake that is switched on.
 #[derive(Clone, Copy)]
 pub struct Copies {
-    pub unmodified: ListsFn,
+    pub plain: ListsFn,
     pub timed: TimedFn,
     pub draw_units: UnitsFn,
     pub instrumented: PlanFn,

@@ -6,7 +6,7 @@
 //! with the own finder at depth 33, which number 10 refuses: it asks questions 1 to 7, compares the finder and plans
 //! nothing. So *plan* is the time with a finder less that of *asked*, and *questions + plan* is what the questions and it take
 //! without the comparison of the finder. `-` stands for what was not measured. The Rust plans on a prepared library. *build* reads
-//! the bytes (the judge's reader) and prepares that library, *Rust plan* is `PreparedLibrary::plan` of the unmodified copy
+//! the bytes (the judge's reader) and prepares that library, *Rust plan* is `PreparedLibrary::plan` of the plain copy
 //! alone.
 
 use std::hint::black_box;

@@ -1,5 +1,5 @@
-//! Document 01's "Readings at the edges" and its worked example, as its own sentences have them, and a sheet's finder, worked out
-//! by hand from document 02's Paper 1. The stored answers are the oracle's; these are the papers', and the oracle must meet them.
+//! Document 01's worked example and "Readings at the edges", as its own sentences have them and document 02's Paper 3 changes
+//! them; what else that paper says; and a sheet's finder, worked out by hand from Paper 1. The stored answers are the oracle's; these are the papers', and the oracle must meet them.
 
 use crate::answer::{Answer, Lent};
 use crate::generator::encode::{batch_bytes, cell_bytes, node_bytes, reference_bytes, single, text_bytes};
@@ -49,26 +49,27 @@ const READINGS: &[(&str, Shows)] = &[
     ("reference of 16777219 units at 4194306 x 64 px", Lines("proxy", 0)),
     // Fused (1 + 2^-52) x (1 - 2^-52) - 1 is -2^-104, not 0.
     ("fused difference of -2^-104", Lines("text 0 b970000000000000 4000000000000000", 1)),
-    // A 2 x 3 grid of a cell with 0 units counts 6 at depth 1, which is one below the query's, and 0 at depth 2 and above
-    // (document 02, paper 3); zero columns count 0.
+    // A 2 x 3 grid of a cell with 0 units counts 6 at depth 1, and 0 at depth 2 and above (document 02, paper 3); zero columns
+    // count 0. The grid's depth is one below the query's.
     ("122 units and a 2 x 3 grid of a cell with 0, depth 2", Lines("proxy 1 ", 1)),
     ("121 units and a 2 x 3 grid of a cell with 0, depth 2", Lines("proxy 1 ", 0)),
     ("127 units and a 2 x 3 grid of a cell with 0, depth 3", Lines("proxy 1 ", 0)),
     ("127 units and a 2 x 3 grid of a cell with 0, depth 4", Lines("proxy 1 ", 0)),
     ("127 units and a 2 x 3 grid of a cell with 0, depth 32", Lines("proxy 1 ", 0)),
+    ("127 units and a 0 x 3 grid, depth 3", Lines("proxy 1 ", 0)),
     // A missing cell, one in an open circle and a batch, text or node as a source still count one.
     ("127 units and a missing cell", Lines("proxy 1 ", 1)),
     ("127 units and itself", Lines("proxy 1 ", 1)),
     ("127 units and a batch of no elements by reference", Lines("proxy 1 ", 1)),
     ("127 units and a text by reference", Lines("proxy 1 ", 1)),
     ("127 units and a node by reference", Lines("proxy 1 ", 1)),
-    // A block of unused sites beside two cells that draw is opened, and so is its field; at depth 2 it counts one a member.
+    // A block of unused sites beside two cells that draw is opened, and so is its field; at query depth 2 the field counts one
+    // a member.
     ("block of 676 unused sites and two cells, zoom 0.24, depth 2", Lines("proxy 1 ", 1)),
     ("block of 676 unused sites and two cells, zoom 0.24, depth 4", Totals("totals 4 4 0 676 0 0")),
     ("block of 676 unused sites and two cells, zoom 0.24, depth 4", Lines("batch 0 ", 2)),
     ("block of 676 unused sites and two cells, zoom 0.8, depth 4", Lines("proxy 2 ", 676)),
     ("block of 676 unused sites and two cells, zoom 6, depth 4", Totals("totals 680 4 0 0 0 0")),
-    ("127 units and a 0 x 3 grid, depth 3", Lines("proxy 1 ", 0)),
     // Depth 0 gives just one proxy if the root has a box that overlaps the view.
     ("one reference, depth 0", Lines("proxy 0 ", 1)),
     ("one reference out of view, depth 0", Exactly("totals 0 0 0 0 0 0\n")),

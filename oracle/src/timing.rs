@@ -1,4 +1,4 @@
-//! Times of the oracle's plan on large sheets: reading, preparing the library, and the unmodified copy's `plan`.
+//! Times of the oracle's plan on large sheets: reading, preparing the library, and the plain copy's `plan`.
 //! The least of several runs is given, as the one that other work on the machine disturbed least.
 
 use std::time::{Duration, Instant};

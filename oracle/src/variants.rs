@@ -35,8 +35,8 @@ pub fn checked(sheet: &Sheet, query: &Query, settings: Settings) -> Run {
     );
     if settings.limits == Limits::DOCUMENT {
         assert!(
-            (copies.unmodified)(sheet, query) == run.lists,
-            "the instrumented copy's lists are not the unmodified copy's"
+            (copies.plain)(sheet, query) == run.lists,
+            "the instrumented copy's lists are not the plain copy's"
         );
     }
     run

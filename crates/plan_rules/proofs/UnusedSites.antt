@@ -3,8 +3,8 @@
 use mathlib.Core.Path.{_≡_, refl, sym, ap, _∙_}
 use mathlib.Core.Bool.{Bool, true, false, cond, _||_}
 use mathlib.Core.Option.{Option, none, some}
-use Prim.Native.Nat.{ℕ, _/_, _≤_, _<_, max}
-use native.Mathlib.Nat.{mul-zero, mul-one, zero-div, le-max-right}
+use Prim.Native.Nat.{ℕ, _-_, _*_, _/_, _≤_, _<_, max}
+use native.Mathlib.Nat.{mul-zero, mul-one, zero-mul, zero-div, le-max-right}
 use native.Mathlib.Omega.{arith}
 use lib.Dec.{eqb}
 use lib.Ieee.{Float, lt}
@@ -13,9 +13,9 @@ use Rattle.grid.specs.Grid.{gridCount}
 use Rattle.screen.specs.Screen.{refLoadThresholdPx, collapseTest, shouldCollapseReference}
 use Rattle.abstract_sheet.specs.Sheet.{CellRecord}
 use Rattle.plan_rules.specs.Event.{saturate, _⊠_}
-use Rattle.plan_rules.specs.DrawUnits.{Units, referenceDrawUnits, cellDrawUnits}
+use Rattle.plan_rules.specs.DrawUnits.{Units, referenceDrawUnits, sourceDrawUnits, cellDrawUnits}
 use Rattle.plan_rules.specs.Visit.{sourceUnits}
-use Rattle.plan_rules.specs.UnusedSites.{UnusedSitesCountNothing, OneAMemberAtDepthOne, MissingCellCountsOne, OpenCircleCountsOne, ItemCountsOne, ShareAtLeastOne, NothingIsNeverDense}
+use Rattle.plan_rules.specs.UnusedSites.{UnusedSitesCountNothing, OthersCountAsBefore, OneAMemberAtDepthOne, MissingCellCountsOne, OpenCircleCountsOne, ItemCountsOne, ShareAtLeastOne, UnusedSitesAreNeverDense}
 use Rattle.plan_rules.proofs.Paths.Counts as Counts
 
 -- ---- the count
@@ -33,6 +33,16 @@ unused-sites-count-nothing S cells depth r k m deep e = by (eqb (gridCount (r .g
     by : (b : Bool) → eqb (gridCount (r .grid)) 0 ≡ b → unitsOf (referenceDrawUnits S cells depth r k m) ≡ 0
     by true a = ap unitsOf (Counts.units-empty S cells depth r k m a)
     by false a = ap unitsOf (Counts.units-deep S cells depth r k m a (lt-leb depth 1 deep)) ∙ ap (λ (u : ℕ). gridCount (r .grid) ⊠ u) e ∙ ap saturate (mul-zero (gridCount (r .grid))) ∙ saturate-zero
+
+pub others-count-as-before : OthersCountAsBefore
+others-count-as-before S cells depth r k m deep one = by (eqb (gridCount (r .grid)) 0) refl (unitsOf (sourceDrawUnits S cells (depth - 1) (r .source) k m)) refl one
+  where
+    by : (b : Bool) → eqb (gridCount (r .grid)) 0 ≡ b → (n : ℕ) → unitsOf (sourceDrawUnits S cells (depth - 1) (r .source) k m) ≡ n → 1 ≤ n
+        → unitsOf (referenceDrawUnits S cells depth r k m) ≡ saturate (gridCount (r .grid) * max n 1)
+    by true a n e h = ap unitsOf (Counts.units-empty S cells depth r k m a) ∙ sym (ap (λ (g : ℕ). saturate (g * max n 1)) (eqb-true _ _ a) ∙ ap saturate (zero-mul (max n 1)) ∙ saturate-zero)
+    by false a n e h =
+        let least : n ≡ max n 1 = omega (arith, h) in
+        ap unitsOf (Counts.units-deep S cells depth r k m a (lt-leb depth 1 deep)) ∙ ap (λ (u : ℕ). gridCount (r .grid) ⊠ u) (e ∙ least)
 
 pub one-a-member-at-depth-one : OneAMemberAtDepthOne
 one-a-member-at-depth-one S cells depth r k m shallow = by (eqb (gridCount (r .grid)) 0) refl
@@ -75,6 +85,6 @@ share-of-nothing count = by (eqb count 0)
     by true = omega arith
     by false = rw (zero-div count) (omega arith)
 
-pub nothing-is-never-dense : NothingIsNeverDense
-nothing-is-never-dense w h members depth count e m d =
+pub unused-sites-are-never-dense : UnusedSitesAreNeverDense
+unused-sites-are-never-dense w h members depth count e m d =
     (under-128-never-dense w h members 0 depth e m (omega arith) d, under-128-never-dense w h 1 (sourceUnits 0 count) depth e (omega arith) (share-of-nothing count) d)

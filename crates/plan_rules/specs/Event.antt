@@ -85,7 +85,7 @@ unfoldable pub _⊞_ : ℕ → ℕ → ℕ
 x ⊞ zero = x
 x ⊞ suc n = saturate (x + suc n)
 
--- `saturating_mul`
+-- `saturating_mul`: a product that stops there
 infixl 70 _⊠_
 abbrev pub _⊠_ : ℕ → ℕ → ℕ
 x ⊠ y = saturate (x * y)

@@ -15,7 +15,7 @@
 --     MappedPlan   a plan over these maps and sets
 --     Samples      small sheets and queries
 --     Readings     the readings at the edges that document 01 marks P
---     UnusedSites  document 02, paper 3: the sentences about the count, as types
+--     UnusedSites  document 02, paper 3: its sentences, as types
 --     Statements   what is proved of the rules, as types
 -- Definitions only; the facts about them are in proofs/.
 pub mod Limits

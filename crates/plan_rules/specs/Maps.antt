@@ -67,6 +67,7 @@ orCached none w x = x
 unfoldable pub mappedCell : (ℕ → Maps → Tally) → ℕ → ℕ → Option CellRecord → Maps → Tally
 mappedCell visit depth n o w = orCached (w .cache n depth) w (freshCell visit depth n o w)
 
+-- `reference_draw_units` with document 02's paper 3: the units of the source are taken as they are
 unfoldable pub mappedReferenceWith : ℕ → (PreparedSource → Maps → Tally) → PreparedReference → Maps → Tally
 mappedReferenceWith depth deeper r w =
     cond (eqb (gridCount (r .grid)) 0) (tally 0 w)

@@ -1,4 +1,4 @@
--- READINGS AT THE EDGES: the cases that document 01 marks P, in its order, each below the paper's words.
+-- READINGS AT THE EDGES: the cases that document 01 marks P, in its order, each below the paper's words; and, after the one that document 02's paper 3 changes, two of what that paper is for.
 -- Clause d: "The cases marked P are a list checked by one theorem about the rules." The list is `readings`; the theorem is `the-readings` in proofs/Cases/Readings.antt.
 -- Definitions only; rests on the rules and on `Samples`.
 use mathlib.Core.Path.{_≡_}
@@ -44,6 +44,7 @@ cellWith units = sheetOfLists [] [] [] [] (cellOf units (page 1 1) [] [] [] [] �
 abbrev pub gridUnitsAt : ℕ → ℕ → ℕ → ℕ → ℕ
 gridUnitsAt depth columns rows units = (referenceDrawUnits (cellWith units) 1 depth (gridOfCell columns rows) (replicate (countsNamed 1 depth) 0) (replicate (marksNamed 1 depth) 0)) .units
 
+-- the same at depth 2
 abbrev pub gridUnits : ℕ → ℕ → ℕ → ℕ
 gridUnits = gridUnitsAt 2
 

@@ -4,7 +4,7 @@ use mathlib.Core.Path.{_≡_}
 use mathlib.Core.Bool.{true, false, _||_}
 use mathlib.Core.List.{List}
 use mathlib.Core.Option.{none}
-use Prim.Native.Nat.{ℕ, _-_, _≤_, _<_}
+use Prim.Native.Nat.{ℕ, _-_, _*_, _≤_, _<_, max}
 use lib.Ieee.{Float, lt}
 use Rattle.grid.specs.Grid.{gridCount}
 use Rattle.screen.specs.Screen.{refLoadThresholdPx, refMaxGridExpansion, shouldCollapseReference}
@@ -20,6 +20,12 @@ use Rattle.plan_rules.specs.Visit.{sourceUnits}
 abbrev pub UnusedSitesCountNothing : Type 0
 UnusedSitesCountNothing = (S : Sheet) (cells depth : ℕ) (r : PreparedReference) (k m : List ℕ)
     → 1 < depth → (sourceDrawUnits S cells (depth - 1) (r .source) k m) .units ≡ 0 → (referenceDrawUnits S cells depth r k m) .units ≡ 0
+
+-- "where it counted one a member until now": of a source that counts, a reference counts as before, as the Rust has it
+abbrev pub OthersCountAsBefore : Type 0
+OthersCountAsBefore = (S : Sheet) (cells depth : ℕ) (r : PreparedReference) (k m : List ℕ)
+    → let n = (sourceDrawUnits S cells (depth - 1) (r .source) k m) .units in
+    1 < depth → 1 ≤ n → (referenceDrawUnits S cells depth r k m) .units ≡ saturate (gridCount (r .grid) * max n 1)
 
 -- "a reference at depth 1 still counts one a member", up to where every count stops
 abbrev pub OneAMemberAtDepthOne : Type 0
@@ -43,8 +49,8 @@ ItemCountsOne = (S : Sheet) (cells depth n : ℕ) (k m : List ℕ)
 abbrev pub ShareAtLeastOne : Type 0
 ShareAtLeastOne = (units count : ℕ) → 1 ≤ sourceUnits units count
 
--- "All that rests on the count follows: collapse": a reference of 0 units, or a member of one, is boxed for its depth, its sides or its members, and never as dense
-abbrev pub NothingIsNeverDense : Type 0
-NothingIsNeverDense = (w h : Float) (members depth count : ℕ)
+-- "All that rests on the count follows: collapse": a reference of 0 units, or a member of one, collapses for its depth, its sides or its members, and never as dense
+abbrev pub UnusedSitesAreNeverDense : Type 0
+UnusedSitesAreNeverDense = (w h : Float) (members depth count : ℕ)
     → lt w refLoadThresholdPx || lt h refLoadThresholdPx ≡ false → members ≤ refMaxGridExpansion → 1 < depth
     → (shouldCollapseReference w h members 0 depth false ≡ false) × (shouldCollapseReference w h 1 (sourceUnits 0 count) depth false ≡ false)

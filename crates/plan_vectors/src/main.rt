@@ -1,4 +1,4 @@
-// Replays the stored answers of the Rust planner: it reads the cases that the judge stores in crates/plan_vectors/stdin, answers each
+// Replays the stored answers of the judge: it reads the cases that the judge stores in crates/plan_vectors/stdin, answers each
 // input by the functions of the program `plan`, compares the text byte by byte, and prints by the first word of the expected text how
 // many passed and how many failed, and before that the first of these answers as `plan` prints it. A case that fails is named by its
 // number. Before the replay it prints the answers that no stored case has: to too many cells, and where too little is lent.

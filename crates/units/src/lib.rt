@@ -34,7 +34,7 @@ pub fn reference_draw_units(
     }
     let source = reference.source;
     let source_count = source_draw_units(sheet, finder, kinds, counts, marks, source, depth - 1);
-    totals::saturating_mul(count, source_count)
+    totals::saturating_mul(count, source_count) // the Rust has source_count.max(1): document 02, paper 3
 }
 
 // The same of the reference that a number names.

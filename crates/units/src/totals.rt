@@ -4,6 +4,7 @@ ghost use mathlib.Core.Path.{_≡_};
 ghost use Rattle.plan_rules.specs.Event.{_⊠_};
 ghost use Rattle.plan_rules.specs.Visit.{sourceUnits};
 
+// `a.saturating_mul(b)`
 pub fn saturating_mul(a: u64, b: u64) -> u64
     ensures { λ r. ⌜ r ≡ a ⊠ b ⌝ }
 {

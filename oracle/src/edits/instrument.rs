@@ -1,6 +1,6 @@
 // The edits that make the instrumented copy: it keeps the order of emission, the causes of proxies,
 // what is not written (dropped, skipped, culled), the path of each event, and takes its limits as given.
-// None of them changes what is decided; every run checks its lists against the unmodified copy's.
+// None of them changes what is decided; every run checks its lists against the plain copy's.
 
 use super::Edit;
 

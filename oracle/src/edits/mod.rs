@@ -133,7 +133,7 @@ pub const PIECES: &[Piece] = &[
     ),
 ];
 
-/// Made in both copies, the unmodified one too: what a stand-in needs.
+/// Made in both copies, the plain one too: what a stand-in needs.
 pub const SUBSTITUTIONS: &[Edit] = &[
     Edit {
         why: "merge takes the first of equal values, which f64::min leaves open",

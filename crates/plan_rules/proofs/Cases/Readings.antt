@@ -1,4 +1,4 @@
--- THE READINGS AT THE EDGES hold: one theorem for the list of the cases that document 01 marks P. All are computed but four, which speak of every size or depth.
+-- THE READINGS AT THE EDGES hold: one theorem for the list of `specs.Readings`. All are computed but four, which speak of every size or depth.
 -- Assumes nothing.
 use mathlib.Core.Path.{_≡_, refl, _∙_}
 use mathlib.Core.Bool.{Bool, true, false, cond, _||_}

@@ -61,7 +61,7 @@ pub const TABLE: &[Planted] = &[
         (1, "draw_units.checked_div(grid_count).unwrap_or(1).max(1)", "draw_units")),
     mistake!("paper 3: a member's share may be 0",
         Planner,
-        Seen::Never("a share is only compared with 128, so 0 and 1 decide alike"),
+        Seen::Never("a share below 128 is compared with 128 and with nothing else, so 0 and 1 decide alike"),
         (1, ".unwrap_or(1).max(1)", ".unwrap_or(1)")),
     mistake!("a member's share is rounded up",
         Planner,

@@ -56,7 +56,8 @@ pub fn units(edges: &mut Edges) {
     block_of_unused_sites(edges);
 }
 
-/// Sources that count 0: a reference of them counts 0 from depth 2 on, and one a member at depth 1.
+/// Sources that count 0: a reference of them counts 0 from depth 2 on, and one a member at depth 1. And a batch of no elements,
+/// which counts 1.
 fn unused(edges: &mut Edges) {
     let nothing = Source::Cell(2);
     let two_by_three = |source| grid(source, None, (2, 3), [1.0, 1.0]);
@@ -146,7 +147,7 @@ fn saturation(edges: &mut Edges) {
     add(edges, "2^40 units in 32,767 x 32,767 members", wide(4), sheet);
 }
 
-/// A member's share of the count: the whole is not dense, a member may be.
+/// A member's share of the count: the whole is not dense, a member may be. And 128 close members, which are dense with a unit each.
 fn shares(edges: &mut Edges) {
     for units in [127, 128, 200] {
         for spacing in [64.0, 200.0] {

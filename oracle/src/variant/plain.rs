@@ -1,4 +1,4 @@
-// The entry of the unmodified copy: the plan's lists as the Rust has them. Spliced by build.rs.
+// The entry of the plain copy: the plan's lists. Spliced by build.rs.
 
 fn plan_prepared(library: &PreparedLibrary, query: &sheet::Query) -> ScenePlan {
     let visible = world_bbox(query.view);
