@@ -2,16 +2,18 @@
 -- Assumes nothing.
 use mathlib.Core.Path.{_≡_, refl, sym, ap, _∙_}
 use mathlib.Core.Bool.{Bool, true, false, cond, _||_}
+use mathlib.Core.List.{List}
 use mathlib.Core.Option.{Option, none, some}
-use Prim.Native.Nat.{ℕ, _-_, _*_, _/_, _≤_, _<_, max}
-use native.Mathlib.Nat.{mul-zero, mul-one, zero-mul, zero-div, le-max-right}
+use Prim.Native.Nat.{ℕ, _-_, _/_, _≤_, _<_, max}
+use native.Mathlib.Nat.{mul-zero, mul-one, zero-mul, zero-div, le-max-right, max-eq-left}
 use native.Mathlib.Omega.{arith}
 use lib.Dec.{eqb}
 use lib.Ieee.{Float, lt}
 use borrow.Author.Tests.{eqb-true, le-leb, lt-leb, le-ltb, lt-ltb}
 use Rattle.grid.specs.Grid.{gridCount}
 use Rattle.screen.specs.Screen.{refLoadThresholdPx, collapseTest, shouldCollapseReference}
-use Rattle.abstract_sheet.specs.Sheet.{CellRecord}
+use Rattle.records.specs.declared.PreparedReference.{PreparedReference}
+use Rattle.abstract_sheet.specs.Sheet.{CellRecord, Sheet}
 use Rattle.plan_rules.specs.Event.{saturate, _⊠_}
 use Rattle.plan_rules.specs.DrawUnits.{Units, referenceDrawUnits, sourceDrawUnits, cellDrawUnits}
 use Rattle.plan_rules.specs.Visit.{sourceUnits}
@@ -23,33 +25,37 @@ use Rattle.plan_rules.proofs.Paths.Counts as Counts
 abbrev unitsOf : Units → ℕ
 unitsOf u = u .units
 
-saturate-zero : saturate 0 ≡ 0
+none-of-any : (n : ℕ) → 0 ⊠ n ≡ 0
 unfolding saturate
-saturate-zero = refl
+none-of-any n = rw (zero-mul n)
+
+any-of-none : (n : ℕ) → n ⊠ 0 ≡ 0
+unfolding saturate
+any-of-none n = rw (mul-zero n)
+
+module _ (S : Sheet) (cells depth : ℕ) (r : PreparedReference) (k m : List ℕ) where
+  -- A reference counts its members times what one is taken for. A grid without members asks no source, and counts 0 all the same.
+  by-members : (n : ℕ) → (eqb (gridCount (r .grid)) 0 ≡ false → unitsOf (referenceDrawUnits S cells depth r k m) ≡ gridCount (r .grid) ⊠ n) → unitsOf (referenceDrawUnits S cells depth r k m) ≡ gridCount (r .grid) ⊠ n
+  by-members n counts = by (eqb (gridCount (r .grid)) 0) refl
+    where
+      by : (b : Bool) → eqb (gridCount (r .grid)) 0 ≡ b → unitsOf (referenceDrawUnits S cells depth r k m) ≡ gridCount (r .grid) ⊠ n
+      by true a = ap unitsOf (Counts.units-empty S cells depth r k m a) ∙ sym (ap (λ (g : ℕ). g ⊠ n) (eqb-true _ _ a) ∙ none-of-any n)
+      by false a = counts a
+
+  by-source : 1 < depth → unitsOf (referenceDrawUnits S cells depth r k m) ≡ gridCount (r .grid) ⊠ unitsOf (sourceDrawUnits S cells (depth - 1) (r .source) k m)
+  by-source deep = by-members _ (λ a. ap unitsOf (Counts.units-deep S cells depth r k m a (lt-leb depth 1 deep)))
+
+  one-each : depth ≤ 1 → unitsOf (referenceDrawUnits S cells depth r k m) ≡ gridCount (r .grid) ⊠ 1
+  one-each shallow = by-members 1 (λ a. ap unitsOf (Counts.units-shallow S cells depth r k m a (le-leb depth 1 shallow)))
 
 pub unused-sites-count-nothing : UnusedSitesCountNothing
-unused-sites-count-nothing S cells depth r k m deep e = by (eqb (gridCount (r .grid)) 0) refl
-  where
-    by : (b : Bool) → eqb (gridCount (r .grid)) 0 ≡ b → unitsOf (referenceDrawUnits S cells depth r k m) ≡ 0
-    by true a = ap unitsOf (Counts.units-empty S cells depth r k m a)
-    by false a = ap unitsOf (Counts.units-deep S cells depth r k m a (lt-leb depth 1 deep)) ∙ ap (λ (u : ℕ). gridCount (r .grid) ⊠ u) e ∙ ap saturate (mul-zero (gridCount (r .grid))) ∙ saturate-zero
+unused-sites-count-nothing S cells depth r k m deep e = by-source S cells depth r k m deep ∙ ap (λ (n : ℕ). gridCount (r .grid) ⊠ n) e ∙ any-of-none (gridCount (r .grid))
 
 pub others-count-as-before : OthersCountAsBefore
-others-count-as-before S cells depth r k m deep one = by (eqb (gridCount (r .grid)) 0) refl (unitsOf (sourceDrawUnits S cells (depth - 1) (r .source) k m)) refl one
-  where
-    by : (b : Bool) → eqb (gridCount (r .grid)) 0 ≡ b → (n : ℕ) → unitsOf (sourceDrawUnits S cells (depth - 1) (r .source) k m) ≡ n → 1 ≤ n
-        → unitsOf (referenceDrawUnits S cells depth r k m) ≡ saturate (gridCount (r .grid) * max n 1)
-    by true a n e h = ap unitsOf (Counts.units-empty S cells depth r k m a) ∙ sym (ap (λ (g : ℕ). saturate (g * max n 1)) (eqb-true _ _ a) ∙ ap saturate (zero-mul (max n 1)) ∙ saturate-zero)
-    by false a n e h =
-        let least : n ≡ max n 1 = omega (arith, h) in
-        ap unitsOf (Counts.units-deep S cells depth r k m a (lt-leb depth 1 deep)) ∙ ap (λ (u : ℕ). gridCount (r .grid) ⊠ u) (e ∙ least)
+others-count-as-before S cells depth r k m deep one = by-source S cells depth r k m deep ∙ ap (λ (n : ℕ). gridCount (r .grid) ⊠ n) (sym (max-eq-left one))
 
 pub one-a-member-at-depth-one : OneAMemberAtDepthOne
-one-a-member-at-depth-one S cells depth r k m shallow = by (eqb (gridCount (r .grid)) 0) refl
-  where
-    by : (b : Bool) → eqb (gridCount (r .grid)) 0 ≡ b → unitsOf (referenceDrawUnits S cells depth r k m) ≡ saturate (gridCount (r .grid))
-    by true a = ap unitsOf (Counts.units-empty S cells depth r k m a) ∙ sym (ap saturate (eqb-true _ _ a) ∙ saturate-zero)
-    by false a = ap unitsOf (Counts.units-shallow S cells depth r k m a (le-leb depth 1 shallow)) ∙ ap saturate (mul-one (gridCount (r .grid)))
+one-a-member-at-depth-one S cells depth r k m shallow = one-each S cells depth r k m shallow ∙ ap saturate (mul-one (gridCount (r .grid)))
 
 pub missing-cell-counts-one : MissingCellCountsOne
 missing-cell-counts-one S cells depth n k m e = ap unitsOf (Counts.units-cell-missing S cells depth n k m e)
