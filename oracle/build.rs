@@ -1,5 +1,6 @@
 //! Takes the planner's text from the Rust source and writes the copies of it into OUT_DIR: one plain (with
-//! substitutions and alterations alone), one instrumented, one with all planted mistakes, each behind a switch. Every piece and edit is asserted.
+//! substitutions and alterations alone), one instrumented, one with all planted mistakes, each behind a switch.
+//! Every piece and edit is asserted.
 //! The source is found by GDSR_SOURCE, else at ../../shared/docs/src beside the repository. Where it is absent the
 //! build goes on without a planner, and every subcommand that plans says so.
 //! With the feature `library` the static libraries of the Rattle planner are linked, from RIBALTZEN_LIBRARY or else

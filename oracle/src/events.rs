@@ -133,7 +133,7 @@ pub fn patterns<const N: usize>(values: [f64; N]) -> [u64; N] {
     values.map(pattern)
 }
 
-/// The lists that the events give, for the check against the Rust's own.
+/// The lists that the events give, for the check against the plain copy's.
 pub fn lists_of(events: &[Event], totals: [u64; 6]) -> Lists {
     let mut lists = Lists { totals, ..Lists::default() };
     for event in events {

@@ -1,5 +1,5 @@
-//! The judge of demand 2: the Rust planner's own text over stand-ins, a generator, stored answers, planted mistakes
-//! and demand 3 by brute force. README.md says what each subcommand does.
+//! The judge of demand 2: the Rust planner's text, altered where a change request says so, over stand-ins; a generator,
+//! stored answers, planted mistakes and demand 3 by brute force. README.md says what each subcommand does.
 
 // Without the Rust source much here has no caller.
 #![cfg_attr(sourceless, allow(dead_code, unused_imports))]
@@ -36,8 +36,8 @@ use std::process::exit;
 
 const USAGE: &str = "oracle COMMAND: plan [BUFFER] | planted-plan NUMBER | edits | mistakes |
   coverage EACH [SEED [FAMILY]] |
-  cases EACH [SEED] | large NUMBER | store | verify | replay | choose SEEDS [FAMILY] | planted | cover COUNT [SEED] |
-  memory COUNT [SEED] | timings | quick
+  cases EACH [SEED] | large NUMBER | store | verify | replay | choose SEEDS [FAMILY] | planted | planted-count NUMBER SEEDS |
+  cover COUNT [SEED] | memory COUNT [SEED] | timings | quick
   with the feature `library`: differential COUNT [SEED] | files FOLDER | race [ROUNDS [NAME]]";
 
 fn stored_folder() -> PathBuf {
@@ -65,7 +65,10 @@ fn main() {
     let folder = stored_folder();
     match command {
         "plan" => plan(number(1, u64::MAX) as usize),
-        "planted-plan" => planted_plan(number(1, 1) as usize),
+        "planted-plan" => {
+            let text = planted::text_with(number(1, 1) as usize, mistake(number(1, 1)), &input());
+            print(&text.unwrap_or_default());
+        }
         "edits" => print(commands::edits_page().as_bytes()),
         "mistakes" => commands::print_mistakes(),
         "coverage" => match arguments.get(3) {
@@ -85,6 +88,7 @@ fn main() {
         "replay" => verdict(commands::replay(&folder)),
         "choose" => planted::choose(&folder, number(1, 100), arguments.get(2).map(String::as_str)),
         "planted" => verdict(planted::run(&folder, true)),
+        "planted-count" => planted::count(number(1, 1) as usize, mistake(number(1, 1)), number(2, 1_000)),
         "cover" => cover(number(2, 0), number(1, 1_000)),
         "memory" => memory(number(2, 0), number(1, 1_000)),
         "timings" => timing::run(),
@@ -116,10 +120,9 @@ fn plan(buffer: usize) {
     print(&(variants::JUDGE.program)(variants::checked, &input(), buffer).text);
 }
 
-/// The program `plan` with a planted mistake.
-fn planted_plan(number: usize) {
-    let mistake = edits::planted::all().nth(number - 1).expect("a mistake of that number");
-    print(&planted::text_with(number, mistake, &input()).unwrap_or_default());
+/// A planted mistake by its number, as `mistakes` prints it.
+fn mistake(number: u64) -> &'static edits::planted::Planted {
+    edits::planted::all().nth(number as usize - 1).expect("a mistake of that number")
 }
 
 /// Demand 3 by brute force.

@@ -182,11 +182,26 @@ fn find(number: usize, mistake: &Planted, seeds: u64, name: Option<&str>) -> Opt
     for seed in 0..seeds {
         for family in FAMILIES.iter().filter(|family| name.is_none_or(|name| name == family.name)) {
             let input = make(family, seed);
-            let Some(expected) = with_mistake(0, || answer(&input).text) else { continue };
-            if text_with(number, mistake, &input).as_ref() != Some(&expected) && is_small(&input) {
+            if is_small(&input) && shows(number, mistake, &input) {
                 return Some((family.name, seed));
             }
         }
     }
     None
+}
+
+/// Whether what `plan` prints differs with the mistake. A hostile input shows nothing.
+fn shows(number: usize, mistake: &Planted, input: &[u8]) -> bool {
+    let expected = with_mistake(0, || answer(input).text);
+    expected.is_some() && text_with(number, mistake, input) != expected
+}
+
+/// Prints how many of the first cases of each family show one mistake.
+pub fn count(number: usize, mistake: &Planted, seeds: u64) {
+    quietly(|| {
+        for family in FAMILIES {
+            let shown = (0..seeds).filter(|&seed| shows(number, mistake, &make(family, seed))).count();
+            println!("{shown:6} {}", family.name);
+        }
+    });
 }

@@ -1,5 +1,6 @@
 //! Document 01's worked example and "Readings at the edges", as its own sentences have them and document 02's Paper 3 changes
-//! them; what else that paper says; and a sheet's finder, worked out by hand from Paper 1. The stored answers are the oracle's; these are the papers', and the oracle must meet them.
+//! them; what else that paper says; and a sheet's finder, worked out by hand from Paper 1. The stored answers are the oracle's;
+//! these are the papers', and the oracle must meet them.
 
 use crate::answer::{Answer, Lent};
 use crate::generator::encode::{batch_bytes, cell_bytes, node_bytes, reference_bytes, single, text_bytes};

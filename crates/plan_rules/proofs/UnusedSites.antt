@@ -29,7 +29,7 @@ none-of-any : (n : ℕ) → 0 ⊠ n ≡ 0
 unfolding saturate
 none-of-any n = rw (zero-mul n)
 
-any-of-none : (n : ℕ) → n ⊠ 0 ≡ 0
+pub any-of-none : (n : ℕ) → n ⊠ 0 ≡ 0
 unfolding saturate
 any-of-none n = rw (mul-zero n)
 

@@ -14,7 +14,7 @@
 --     Maps         the draw units over the Rust's maps and sets: the lent scratch stands for them
 --     MappedPlan   a plan over these maps and sets
 --     Samples      small sheets and queries
---     Readings     the readings at the edges that document 01 marks P
+--     Readings     the readings at the edges that document 01 marks P, as document 02 changes them
 --     UnusedSites  document 02, paper 3: its sentences, as types
 --     Statements   what is proved of the rules, as types
 -- Definitions only; the facts about them are in proofs/.

@@ -1,4 +1,4 @@
--- READINGS AT THE EDGES: the cases that document 01 marks P, in its order, each below the paper's words; and, after the one that document 02's paper 3 changes, two of what that paper is for.
+-- READINGS AT THE EDGES: the cases that document 01 marks P, in its order, each below the paper's words; and, after the one that document 02's paper 3 changes, two that show its purpose.
 -- Clause d: "The cases marked P are a list checked by one theorem about the rules." The list is `readings`; the theorem is `the-readings` in proofs/Cases/Readings.antt.
 -- Definitions only; rests on the rules and on `Samples`.
 use mathlib.Core.Path.{_≡_}

@@ -17,7 +17,7 @@ const MISSING: u32 = 9;
 
 const FIELDS: [(u16, u16); 8] = [(16, 8), (8, 16), (12, 11), (1, 128), (127, 1), (5, 4), (30, 30), (30, 30)];
 
-/// What a site holds besides its frame, mostly nothing. What it holds is not counted as its own units.
+/// What a site holds besides its frame: nothing in half of the sheets. What it holds is not counted as its own units.
 fn site(sheet: &mut Sheet, rng: &mut Rng, side: f64) {
     let (mut texts, mut references) = (Vec::new(), Vec::new());
     match rng.below(8) {

@@ -1,4 +1,5 @@
 """Held against a built program plan: computed boxes, what cut.py leaves to plan, and the facts of docs/SHEETS.md."""
+import itertools
 import math
 import random
 import subprocess
@@ -125,12 +126,20 @@ def try_zoom(plan):
         same("zoom %r" % zoom, shortened(found), expected)
 
 
+def blocks_behind(page, sample):
+    """The page's indented blocks behind the command that plans a sample, in order."""
+    behind = page.split("    tools/cut.py samples/%s | target/bin/plan\n" % sample, 1)[1]
+    groups = itertools.groupby(behind.splitlines(keepends=True), lambda line: line.startswith("    "))
+    return ["".join(lines) for indented, lines in groups if indented]
+
+
 def try_page(plan):
-    """The page shows the plans of two samples whole, as indented blocks."""
-    for sample in ("outcomes.txt", "sites.txt"):
-        found = printed(plan, file_text("samples", sample))
-        block = "".join("    %s\n" % line for line in found.splitlines())
-        same("the plan of %s in docs/SHEETS.md" % sample, block in file_text("docs", "SHEETS.md"), True)
+    """The page shows the plans of two samples whole, and behind the second the Rust's, which is ours at depth 2."""
+    page, sites = file_text("docs", "SHEETS.md"), file_text("samples", "sites.txt")
+    for sample, place, description in (("outcomes.txt", 0, file_text("samples", "outcomes.txt")), ("sites.txt", 0, sites),
+                                       ("sites.txt", 1, sites.replace("depth=8", "depth=2"))):
+        found = "".join("    " + line for line in printed(plan, description).splitlines(keepends=True))
+        same("%s, plan %d in docs/SHEETS.md" % (sample, place + 1), found, blocks_behind(page, sample)[place])
 
 
 def try_sites(plan):

@@ -35,16 +35,16 @@ under-24-collapses w h members units depth force e = rw e (settled (force || leb
 
 -- ---- a reading of every depth: zeroed places are empty maps, and over these a count is computed
 
-over-maps : (depth : ℕ) → leb (suc (suc depth)) 1 ≡ false → eqb (suc depth) 0 ≡ false → (mappedReference (cellWith 0) (suc (suc depth)) (gridOfCell 2 3) emptyMaps) .units ≡ 0
+two-by-three-over-maps : (depth : ℕ) → leb (suc (suc depth)) 1 ≡ false → eqb (suc depth) 0 ≡ false → (mappedReference (cellWith 0) (suc (suc depth)) (gridOfCell 2 3) emptyMaps) .units ≡ 0
 unfolding mappedReference mappedReferenceWith mappedSource mappedCell freshCell mapOrOne foldMaps opened
-over-maps depth a b = rw (a, b)
+two-by-three-over-maps depth a b = rw (a, b)
 
 two-by-three-of-nothing : (depth : ℕ) → 2 ≤ depth → gridUnitsAt depth 2 3 0 ≡ 0
 two-by-three-of-nothing zero h = absurd (omega arith)
 two-by-three-of-nothing (suc zero) h = absurd (omega arith)
 two-by-three-of-nothing (suc (suc depth)) h =
     reference-same 1 (suc (suc depth)) (cellWith 0) one-cell (suc (suc depth)) (omega arith) (gridOfCell 2 3) _ _ _ (fresh-agree 1 (suc (suc depth))) .units
-    ∙ over-maps depth (lt-leb (suc (suc depth)) 1 (omega arith)) (ne-eqb (suc depth) 0 (λ e. absurd (omega arith)))
+    ∙ two-by-three-over-maps depth (lt-leb (suc (suc depth)) 1 (omega arith)) (ne-eqb (suc depth) 0 (λ e. absurd (omega arith)))
   where
     one-cell : CellsBelow 1 (cellWith 0)
     one-cell = record { present = by; absent = λ c e. gone c e }

@@ -56,8 +56,8 @@ pub fn units(edges: &mut Edges) {
     block_of_unused_sites(edges);
 }
 
-/// Sources that count 0: a reference of them counts 0 from depth 2 on, and one a member at depth 1. And a batch of no elements,
-/// which counts 1.
+/// Sources that count 0: a reference of them counts 0 from depth 2 on, and one a member at depth 1. And two that count 1: a cell
+/// with 0 that holds one with 1, and a batch of no elements.
 fn unused(edges: &mut Edges) {
     let nothing = Source::Cell(2);
     let two_by_three = |source| grid(source, None, (2, 3), [1.0, 1.0]);
