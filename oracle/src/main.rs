@@ -35,9 +35,9 @@ use std::path::{Path, PathBuf};
 use std::process::exit;
 
 const USAGE: &str = "oracle COMMAND: plan [BUFFER] | planted-plan NUMBER | edits | mistakes |
-  coverage EACH [SEED [FAMILY]] |
-  cases EACH [SEED] | large NUMBER | store | verify | replay | choose SEEDS [FAMILY] | planted | planted-count NUMBER SEEDS |
-  cover COUNT [SEED] | memory COUNT [SEED] | timings | quick
+  planted-count NUMBER SEEDS | coverage EACH [SEED [FAMILY]] |
+  cases EACH [SEED] | large NUMBER | store | verify | replay | choose SEEDS [FAMILY] | planted | cover COUNT [SEED] |
+  memory COUNT [SEED] | timings | quick
   with the feature `library`: differential COUNT [SEED] | files FOLDER | race [ROUNDS [NAME]]";
 
 fn stored_folder() -> PathBuf {

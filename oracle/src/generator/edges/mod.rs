@@ -1,4 +1,5 @@
-//! Cases made by hand: document 01's worked example, its "Readings at the edges", document 02's Paper 3, and places that chance seldom meets.
+//! Cases made by hand: document 01's worked example, its "Readings at the edges", document 02's Paper 3, and places that
+//! chance seldom meets.
 
 pub mod at_limits;
 mod counts;
