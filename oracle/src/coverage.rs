@@ -74,7 +74,6 @@ fn run_tags(run: &Run, tags: &mut BTreeSet<&'static str>) {
                 tags.insert("record-14-proxy")
             }
             Event::Dropped { .. } => tags.insert("proxy-dropped"),
-            Event::NodeGridLimit => tags.insert("node-grid-limit"),
             _ => false,
         };
     }
@@ -92,6 +91,7 @@ fn run_tags(run: &Run, tags: &mut BTreeSet<&'static str>) {
         (skipped > 0, "skipped-reference"),
         (culled_batches > 0, "culled-batch"),
         (skipped_batches > 0, "skipped-batch"),
+        (run.record.ran_out > 0, "node-grid-limit"),
     ];
     tags.extend(met.iter().filter(|tag| tag.0).map(|tag| tag.1));
 }

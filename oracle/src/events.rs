@@ -60,13 +60,21 @@ pub enum Event {
     Point { layer: u16, node_type: u16, position: [f64; 2], place: u32 },
     Proxy { label: Option<u32>, bbox: [f64; 4], cause: Cause },
     /// A proxy that met a full list.
-    Dropped { bbox: [f64; 4], cause: Cause },
-    /// A grid of bare node points met a limit at the member where the path stands.
-    NodeGridLimit,
+    Dropped { label: Option<u32>, bbox: [f64; 4], cause: Cause },
     // The rest is kept only with paths.
     Culled,
     MemberSkipped { bbox: [f64; 4], degenerate: bool },
     BatchSkipped { bbox: [f64; 4] },
+}
+
+impl Event {
+    /// Of a proxy, listed or dropped: its label, box and cause.
+    pub fn boxed(&self) -> Option<(Option<u32>, [f64; 4], Cause)> {
+        match *self {
+            Self::Proxy { label, bbox, cause } | Self::Dropped { label, bbox, cause } => Some((label, bbox, cause)),
+            _ => None,
+        }
+    }
 }
 
 #[derive(Default)]
@@ -74,6 +82,8 @@ pub struct Record {
     pub events: Vec<Event>,
     /// With a trace: the path of the event at the same place.
     pub paths: Vec<Vec<Step>>,
+    /// How many grids of bare node points met a limit inside a member.
+    pub ran_out: usize,
     /// Where the visit stands.
     pub path: Vec<Step>,
     trace: bool,
@@ -86,8 +96,13 @@ impl Record {
 
     /// The visit stands one step below `base`.
     pub fn at(&mut self, base: usize, step: Step) {
-        self.path.truncate(base);
+        self.back(base);
         self.path.push(step);
+    }
+
+    /// The visit stands at `base` again.
+    pub fn back(&mut self, base: usize) {
+        self.path.truncate(base);
     }
 
     pub fn emit(&mut self, event: Event) {

@@ -125,6 +125,9 @@ fn mistake(number: u64) -> &'static edits::planted::Planted {
     edits::planted::all().nth(number as usize - 1).expect("a mistake of that number")
 }
 
+/// A run of so many sheets by brute force must meet every kind of node grid at a limit.
+const LONG_RUN: u64 = 3_000;
+
 /// Demand 3 by brute force.
 fn cover(seed: u64, count: u64) {
     let tally = brute::search(variants::checked, seed, count, false);
@@ -133,10 +136,14 @@ fn cover(seed: u64, count: u64) {
         tally.sheets, tally.paths, tally.events, tally.circles, tally.passed_over
     );
     println!("sheets that show: {:?}", tally.shown);
+    println!("sheets by where a node grid met a limit:");
+    tally.node_grids.iter().for_each(|(what, sheets)| println!("{sheets:8} {what}"));
     if let Some(first) = &tally.first {
         println!("first fault: {first}");
     }
-    verdict(((tally.sheets - tally.faults) as usize, tally.faults as usize));
+    let missing = if tally.sheets < LONG_RUN { Vec::new() } else { tally.missing() };
+    missing.iter().for_each(|what| println!("not met: {what}"));
+    verdict(((tally.sheets - tally.faults) as usize, tally.faults as usize + missing.len()));
 }
 
 /// Calls on lent memory: the judge's own answers and memory against the papers' sentences.
@@ -191,8 +198,11 @@ fn quick(folder: &Path) -> ! {
     let mut coverage = coverage::Coverage::default();
     let (run, _) = commands::fresh_cases(generator::FAMILIES, 1_000_000, 300, &mut coverage);
     add("fresh cases, both copies alike", (run as usize, 0));
-    let tally = brute::search(variants::checked, 1_000_000, 3_000, false);
+    let tally = brute::search(variants::checked, 1_000_000, LONG_RUN, false);
     add("demand 3 by brute force", ((tally.sheets - tally.faults) as usize, tally.faults as usize));
+    let (kinds, missing) = (brute::node_grids::wanted().len(), tally.missing());
+    missing.iter().for_each(|what| println!("not met by brute force: {what}"));
+    add("node grids at a limit, by kind", (kinds - missing.len(), missing.len()));
     let mut subject = harness::Oracle { plan: variants::copies().instrumented, judge: variants::JUDGE };
     let tally = harness::run(&mut subject, 1_000_000, 3_000);
     add("memory after calls as stated", ((tally.calls - tally.broken) as usize, tally.broken as usize));

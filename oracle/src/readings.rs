@@ -1,9 +1,10 @@
 //! Document 01's worked example and "Readings at the edges", as its own sentences have them and document 02's Paper 3 changes
-//! them; what else that paper says; and a sheet's finder, worked out by hand from Paper 1. The stored answers are the oracle's;
-//! these are the papers', and the oracle must meet them.
+//! them; what else that paper says; a sheet's finder, worked out by hand from Paper 1; and a node grid that runs out, from
+//! Paper 5. The stored answers are the oracle's; these are the papers', and the oracle must meet them.
 
 use crate::answer::{Answer, Lent};
-use crate::generator::encode::{batch_bytes, cell_bytes, node_bytes, reference_bytes, single, text_bytes};
+use crate::events::{Limits, Settings, patterns};
+use crate::generator::encode::{batch_bytes, cell_bytes, grid, node_bytes, reference_bytes, single, text_bytes};
 use crate::generator::{edges, make_edge};
 use crate::sheet::{Query, Sheet, Source};
 use crate::stored::answer;
@@ -156,11 +157,40 @@ fn finder() -> [(&'static str, bool); 10] {
     ]
 }
 
+/// Whether a row of nodes, each with points at (0, 0) and (30, 40), 100 apart, lists so many points and these boxes without a
+/// label, where so many objects and proxies may be listed.
+fn row_of_nodes(columns: u16, (objects, proxies): (usize, usize), points: u64, boxes: &[[f64; 4]]) -> bool {
+    let mut sheet = Sheet::default();
+    let node = sheet.node(1, 0, &[[0.0, 0.0], [30.0, 40.0]]);
+    let row = sheet.reference(grid(Source::Node(node), Some([0.0, 0.0, 30.0, 40.0]), (columns, 1), [100.0, 0.0]));
+    sheet.cell(0, None).references.push(row);
+    let query = Query { depth: 2, view: [0.0, 0.0, 300.0, 100.0], zoom: 1.0, ..Query::default() };
+    let limits = Limits { objects, proxies, ..Limits::DOCUMENT };
+    let lists = checked(&sheet, &query, Settings { limits, trace: false }).lists;
+    lists.totals[1] == points && lists.proxies.into_iter().eq(boxes.iter().map(|&sides| (None, patterns(sides))))
+}
+
+fn node_grid() -> [(&'static str, bool); 7] {
+    let all = usize::MAX;
+    let [first, middle, last] = [0.0, 100.0, 200.0].map(|x| [x, 0.0, x + 30.0, 40.0]);
+    let whole = [0.0, 0.0, 230.0, 40.0];
+    [
+        ("a node grid that runs out in its first member", row_of_nodes(3, (1, all), 1, &[first, whole])),
+        ("a node grid that runs out in a middle member", row_of_nodes(3, (3, all), 3, &[middle, whole])),
+        ("a node grid that runs out in its last member", row_of_nodes(3, (5, all), 5, &[last, whole])),
+        ("a node that runs out in a reference of one member", row_of_nodes(1, (1, all), 1, &[first, first])),
+        ("a node grid that runs out with room for one box", row_of_nodes(3, (3, 1), 3, &[middle])),
+        ("a node grid at a limit before a member", row_of_nodes(3, (2, all), 2, &[whole])),
+        ("a node grid that just fits", row_of_nodes(3, (6, all), 6, &[])),
+    ]
+}
+
 /// The numbers passed and failed.
 pub fn run() -> (usize, usize) {
     let edges = edges::all();
     let mut results = vec![("remembered counts", remembered())];
     results.extend(finder());
+    results.extend(node_grid());
     for (label, shows) in READINGS {
         let edge = edges.iter().find(|edge| edge.label == *label).expect("a case of that label");
         let text = String::from_utf8(answer(&make_edge(edge)).text).unwrap();

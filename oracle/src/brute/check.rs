@@ -3,6 +3,7 @@
 use std::collections::HashSet;
 
 use super::exact::{Placement, Sides, encloses, whole};
+use super::node_grids;
 use super::paths::{Item, Paths};
 use crate::events::{Event, Limits, Run, Step};
 use crate::sheet::{Query, Sheet};
@@ -13,7 +14,6 @@ struct Given<'a> {
     boxes: Vec<Sides>,
     listed: HashSet<&'a [Step]>,
     skipped: HashSet<&'a [Step]>,
-    limits: Vec<&'a [Step]>,
 }
 
 /// The first fault, if any.
@@ -22,23 +22,17 @@ pub fn fault(sheet: &Sheet, query: &Query, limits: Limits, run: &Run, paths: &Pa
         Ok(given) => given,
         Err(fault) => return Some(fault),
     };
-    let view: Sides = whole(query.view);
     for (path, item) in &paths.items {
-        if in_view(sheet, item, view) && is_shown(sheet, query, item) && !is_covered(sheet, path, item, &given) {
+        if is_to_be_seen(sheet, query, item) && !is_covered(sheet, path, item, &given) {
             return Some(format!("lost: {item:?} at {path:?}"));
         }
     }
-    None
+    node_grids::fault(run, paths)
 }
 
 /// Checks each event by itself, and gathers them.
 fn gather<'a>(query: &Query, limits: Limits, run: &'a Run, paths: &Paths) -> Result<Given<'a>, String> {
-    let mut given = Given {
-        boxes: Vec::new(),
-        listed: HashSet::new(),
-        skipped: HashSet::new(),
-        limits: Vec::new(),
-    };
+    let mut given = Given { boxes: Vec::new(), listed: HashSet::new(), skipped: HashSet::new() };
     let mut proxies = 0;
     for (event, path) in run.record.events.iter().zip(&run.record.paths) {
         match event {
@@ -65,12 +59,6 @@ fn gather<'a>(query: &Query, limits: Limits, run: &'a Run, paths: &Paths) -> Res
                     return Err(format!("skipped, but not under one pixel both ways: {path:?}"));
                 }
                 given.skipped.insert(path);
-            }
-            Event::NodeGridLimit => {
-                if !paths.passed.get(path).is_some_and(|passed| passed.is_node) {
-                    return Err(format!("a limit at {path:?}, which is no grid of bare node points"));
-                }
-                given.limits.push(path);
             }
             Event::Culled => {}
         }
@@ -161,18 +149,14 @@ fn is_shown(sheet: &Sheet, query: &Query, item: &Item) -> bool {
     !query.hidden.contains(&(u32::from(layer) * 65_536 + u32::from(kind)))
 }
 
+/// "in view on a shown layer"
+pub fn is_to_be_seen(sheet: &Sheet, query: &Query, item: &Item) -> bool {
+    in_view(sheet, item, whole(query.view)) && is_shown(sheet, query, item)
+}
+
 fn is_covered(sheet: &Sheet, path: &[Step], item: &Item, given: &Given) -> bool {
     let own = placed(sheet, item);
     given.listed.contains(path)
         || given.boxes.iter().any(|&sides| encloses(sides, own))
         || (0..=path.len()).any(|length| given.skipped.contains(&path[..length]))
-        || given.limits.iter().any(|limit| follows(path, limit))
-}
-
-/// The same way up to the last step, and then a later member.
-fn follows(path: &[Step], limit: &[Step]) -> bool {
-    let (Some((last, before)), true) = (limit.split_last(), path.len() >= limit.len()) else {
-        return false;
-    };
-    &path[..before.len()] == before && path[before.len()] > *last
 }

@@ -1,8 +1,10 @@
-//! Demand 3 by brute force: small square sheets with true boxes, every path up to a bound, against the plan's events.
+//! Demand 3 by brute force: small square sheets with true boxes, every path up to a bound, against the plan's events; and the
+//! sentence of document 02's Paper 5 on them.
 //! Small limits are given to the instrumented planner, so that small sheets meet all four.
 
 mod check;
 pub mod exact;
+pub mod node_grids;
 mod paths;
 
 use std::collections::{BTreeMap, BTreeSet};
@@ -10,6 +12,7 @@ use std::collections::{BTreeMap, BTreeSet};
 use crate::answer::PlanFn;
 use crate::coverage::cause_tag;
 use crate::events::{Event, Limits, Run, Settings};
+use crate::generator::node_grids::at_a_limit;
 use crate::generator::query::near;
 use crate::generator::rng::Rng;
 use crate::generator::square::{Shape, with_true_boxes};
@@ -29,9 +32,17 @@ pub struct Tally {
     pub circles: u64,
     pub events: u64,
     pub faults: u64,
-    /// Sheets by what their plans show.
+    /// Sheets by what their plans show, and by where a node grid met a limit.
     pub shown: BTreeMap<&'static str, u64>,
+    pub node_grids: BTreeMap<String, u64>,
     pub first: Option<String>,
+}
+
+impl Tally {
+    /// The kinds of node grids at a limit that the run did not meet: none in a run of some thousand sheets.
+    pub fn missing(&self) -> Vec<String> {
+        node_grids::wanted().into_iter().filter(|kind| !self.node_grids.contains_key(kind)).collect()
+    }
 }
 
 fn shape(rng: &mut Rng) -> Shape {
@@ -58,11 +69,17 @@ fn limits(rng: &mut Rng) -> Limits {
     Limits { cells: most(1, 5), objects: most(1, 8), texts: most(1, 5), proxies: most(1, 4) }
 }
 
-/// One sheet in four has fields of unused sites, the others anything.
-fn pair(rng: &mut Rng, seed: u64) -> (Query, Sheet) {
-    if seed % 4 == 3 {
-        return unused_sites(rng);
+/// One sheet in four has node grids at a limit, one in four fields of unused sites, the others anything.
+fn case(rng: &mut Rng, seed: u64) -> (Query, Sheet, Limits) {
+    if seed % 4 == 1 {
+        return at_a_limit(rng);
     }
+    let (query, sheet) = if seed % 4 == 3 { unused_sites(rng) } else { any(rng) };
+    let query = widened(rng, query);
+    (query, sheet, limits(rng))
+}
+
+fn any(rng: &mut Rng) -> (Query, Sheet) {
     let shape = shape(rng);
     let sheet = with_true_boxes(rng, &shape);
     (near(rng, &sheet), sheet)
@@ -89,7 +106,6 @@ fn shown(run: &Run) -> BTreeSet<&'static str> {
         Event::Point { .. } => "point",
         Event::Proxy { cause, .. } => cause_tag(*cause),
         Event::Dropped { .. } => "dropped",
-        Event::NodeGridLimit => "node grid's limit",
         Event::Culled => "culled",
         Event::MemberSkipped { .. } => "member skipped",
         Event::BatchSkipped { .. } => "batch skipped",
@@ -100,13 +116,11 @@ fn shown(run: &Run) -> BTreeSet<&'static str> {
 /// One sheet by its seed: the fault, if any.
 fn one(plan: PlanFn, seed: u64, tally: &mut Tally) {
     let mut rng = Rng::new(seed ^ 0x00c0_ffee);
-    let (query, sheet) = pair(&mut rng, seed);
+    let (query, sheet, limits) = case(&mut rng, seed);
     if !exact::is_square(&sheet) || !exact::has_true_boxes(&sheet) {
         tally.passed_over += 1;
         return;
     }
-    let query = widened(&mut rng, query);
-    let limits = limits(&mut rng);
     // Two members beyond the depth: what lies deeper lies in the same boxes.
     let Some(paths) = Paths::of(&sheet, query.root, query.depth.min(8) as usize + 2, MOST_PATHS) else {
         tally.passed_over += 1;
@@ -123,6 +137,9 @@ fn one(plan: PlanFn, seed: u64, tally: &mut Tally) {
     tally.events += run.record.events.len() as u64;
     for shown in shown(&run) {
         *tally.shown.entry(shown).or_default() += 1;
+    }
+    for shown in node_grids::shown(&run, limits, &paths, |item| check::is_to_be_seen(&sheet, &query, item)) {
+        *tally.node_grids.entry(shown).or_default() += 1;
     }
     if let Some(fault) = check::fault(&sheet, &query, limits, &run, &paths) {
         tally.faults += 1;

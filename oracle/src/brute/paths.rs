@@ -2,7 +2,7 @@
 
 use std::collections::HashMap;
 
-use super::exact::{Placement, Sides, member, whole};
+use super::exact::{Placement, Sides, member, reference_sides, whole};
 use crate::events::Step;
 use crate::sheet::{Sheet, Source};
 
@@ -20,7 +20,8 @@ pub struct Passed {
     /// The source box at its exact placement, where there is one.
     pub sides: Option<Sides>,
     pub degenerate: bool,
-    pub is_node: bool,
+    /// Of a member of a grid of bare node points: the exact box of the whole reference.
+    pub node_grid: Option<Sides>,
 }
 
 pub struct Paths<'a> {
@@ -95,6 +96,8 @@ impl<'a> Paths<'a> {
             self.cut = true;
             return;
         }
+        let is_node = matches!(reference.source, Source::Node(_));
+        let node_grid = reference_sides(reference).filter(|_| is_node).map(|sides| parent.sides(sides));
         for column in 0..u32::from(reference.columns) {
             for row in 0..u32::from(reference.rows) {
                 if self.full() {
@@ -106,7 +109,7 @@ impl<'a> Paths<'a> {
                 let passed = Passed {
                     sides: sides.map(|sides| placement.sides(sides)),
                     degenerate: sides.is_some_and(|s| s[0] == s[2] || s[1] == s[3]),
-                    is_node: matches!(reference.source, Source::Node(_)),
+                    node_grid,
                 };
                 self.passed.insert(path.clone(), passed);
                 self.source(reference.source, placement, path, length + 1);

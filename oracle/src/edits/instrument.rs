@@ -72,6 +72,12 @@ pub const INSTRUMENT: &[Edit] = &[
         "if self.detail_budget_exhausted() {\n            note(Cause::OtherLimit);",
     ),
     edit(
+        "cause: another limit, inside a member of a grid of bare node points, which is counted",
+        1,
+        "depth.saturating_sub(1),\n                    ) {",
+        "depth.saturating_sub(1),\n                    ) {\n                        self.plan.record.ran_out += 1;\n                        note(Cause::OtherLimit);",
+    ),
+    edit(
         "cause: circle",
         1,
         "if !self.cell_stack.insert(cell_name.to_string()) {",
@@ -136,7 +142,7 @@ pub const INSTRUMENT: &[Edit] = &[
         "event: proxy, listed or dropped",
         1,
         "            self.plan.load_proxies.push(LoadProxy { bbox, label });\n        }",
-        "            self.plan.record.emit(Event::Proxy { label: label_of(&label), bbox: four(bbox), cause: noted() });\n            self.plan.load_proxies.push(LoadProxy { bbox, label });\n        } else {\n            self.plan.record.emit(Event::Dropped { bbox: four(bbox), cause: noted() });\n        }",
+        "            self.plan.record.emit(Event::Proxy { label: label_of(&label), bbox: four(bbox), cause: noted() });\n            self.plan.load_proxies.push(LoadProxy { bbox, label });\n        } else {\n            self.plan.record.emit(Event::Dropped { label: label_of(&label), bbox: four(bbox), cause: noted() });\n        }",
     ),
     edit(
         "event: culled",
@@ -161,12 +167,6 @@ pub const INSTRUMENT: &[Edit] = &[
         1,
         "self.plan.stats.skipped_subpixel_geometry_batches += 1;",
         "self.plan.record.quiet(Event::BatchSkipped { bbox: four(bbox) });\n            self.plan.stats.skipped_subpixel_geometry_batches += 1;",
-    ),
-    edit(
-        "event: a grid of bare node points met a limit",
-        1,
-        "depth.saturating_sub(1),\n                    ) {",
-        "depth.saturating_sub(1),\n                    ) {\n                        self.plan.record.emit(Event::NodeGridLimit);\n                        note(Cause::OtherLimit);",
     ),
     // Where the visit stands: list places, members, points.
     edit(
@@ -210,6 +210,18 @@ pub const INSTRUMENT: &[Edit] = &[
         1,
         "            for row in 0..reference.grid.rows() {",
         "            for row in 0..reference.grid.rows() {\n                tick();\n                self.plan.record.at(base, Step::Member(column, row));",
+    ),
+    edit(
+        "path: the box that a limit between members adds is the reference's",
+        1,
+        "\n                    self.add_load(world_bbox, reference",
+        "\n                    self.plan.record.back(base);\n                    self.add_load(world_bbox, reference",
+    ),
+    edit(
+        "path: the box that follows a member's is the reference's",
+        1,
+        "self.add_load(world_bbox, None);",
+        "self.plan.record.back(base);\n                        self.add_load(world_bbox, None);",
     ),
     edit(
         "path: a point's place in its node",

@@ -162,12 +162,20 @@ pub const SUBSTITUTIONS: &[Edit] = &[
 ];
 
 /// Lines that a change request alters in the judge itself, made in both copies.
-pub const ALTERATIONS: &[Edit] = &[Edit {
-    why: "document 02, paper 3: a reference whose source counts 0 units counts 0",
-    count: 1,
-    find: "count.saturating_mul(source_count.max(1))",
-    put: "count.saturating_mul(source_count)",
-}];
+pub const ALTERATIONS: &[Edit] = &[
+    Edit {
+        why: "document 02, paper 3: a reference whose source counts 0 units counts 0",
+        count: 1,
+        find: "count.saturating_mul(source_count.max(1))",
+        put: "count.saturating_mul(source_count)",
+    },
+    Edit {
+        why: "document 02, paper 5: where a grid of bare node points runs out, the whole reference's box follows the member's",
+        count: 1,
+        find: "self.add_load(member_bbox, reference.label.clone());\n                        return;",
+        put: "self.add_load(member_bbox, reference.label.clone());\n                        self.add_load(world_bbox, None);\n                        return;",
+    },
+];
 
 #[allow(dead_code)]
 /// Applies the edits in order; each must meet exactly its count of places.

@@ -2,7 +2,7 @@
 //! lists and chains are made by `long`.
 
 use super::boxes::grow_true_boxes;
-use super::edges::at_limits::{after_both, after_cells, after_objects, after_proxies, after_texts};
+use super::edges::at_limits::{after_both, after_cells, after_objects, after_proxies, after_texts, grids};
 use super::encode::{QUARTERS, grid, input, query_bytes, single};
 use super::long;
 use super::rng::Rng;
@@ -104,6 +104,10 @@ pub const LARGE: &[Large] = &[
     large("one short of objects and proxies", 7, after_both),
     large("one short of proxies, and 20,000 cells", 0, after_cells),
     large("one short of proxies, and 20,000 cells", 1, after_cells),
+    large("node grid of six, the limit in member", 1, limit_in_member),
+    large("node grid of six, the limit in member", 4, limit_in_member),
+    large("node grid of six, the limit in member", 6, limit_in_member),
+    large("node grid of one, the limit in member", 1, limit_in_only_member),
 ];
 
 const WIDE: [f64; 4] = [-1e9, -1e9, 1e9, 1e9];
@@ -236,6 +240,30 @@ fn node_grid_of_three(rng: &mut Rng, count: u64) -> Vec<u8> {
 /// The last point of each node lies out of view, so a node may end there after the limit was met.
 fn node_grid_half_in_view(rng: &mut Rng, count: u64) -> Vec<u8> {
     node_grids(rng, count, &[[0.0, 0.0], [0.0, 30.0], [30.0, 0.0]], [-1e9, -1e9, 20.0, 1e9])
+}
+
+fn limit_in_member(rng: &mut Rng, member: u64) -> Vec<u8> {
+    limit_in(rng, (3, 2), member)
+}
+
+fn limit_in_only_member(rng: &mut Rng, member: u64) -> Vec<u8> {
+    limit_in(rng, (1, 1), member)
+}
+
+/// The limit falls after the first of three points of one member. The grid stands in a cell that is moved and turned, and nothing
+/// comes after it: no other box holds the points of later members.
+fn limit_in(rng: &mut Rng, shape: (u16, u16), member: u64) -> Vec<u8> {
+    let mut sheet = Sheet::default();
+    let fill = sheet.node(3, 4, &[[1.0, 2.0]]);
+    let fill = grids(&mut sheet, Source::Node(fill), [0.0; 4], 20_002 - 3 * member as u16);
+    let node = sheet.node(5, 6, &[[0.0, 0.0], [30.0, 0.0], [0.0, 40.0]]);
+    let nodes = sheet.reference(grid(Source::Node(node), None, shape, [60.0, 70.0]));
+    let mut turned = single(Source::Cell(1), None);
+    (turned.origin, turned.reflection, (turned.cos, turned.sin)) = ([500.0, -300.0], true, QUARTERS[1]);
+    let turned = sheet.reference(turned);
+    sheet.cell(0, None).references = [fill, vec![turned]].concat();
+    sheet.cell(1, None).references.push(nodes);
+    finish(sheet, wide(4), rng)
 }
 
 /// The texts run out inside a cell that is placed again and again, with node grids beside.

@@ -7,6 +7,7 @@ pub mod families;
 pub mod faults;
 pub mod large;
 pub mod long;
+pub mod node_grids;
 pub mod query;
 #[cfg(feature = "library")]
 pub mod raced;

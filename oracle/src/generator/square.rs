@@ -41,7 +41,7 @@ impl Shape {
     };
 }
 
-fn point(rng: &mut Rng, span: i64) -> [f64; 2] {
+pub fn point(rng: &mut Rng, span: i64) -> [f64; 2] {
     [rng.range(-span, span) as f64, rng.range(-span, span) as f64]
 }
 

@@ -32,7 +32,7 @@ fn site(sheet: &mut Sheet, rng: &mut Rng, side: f64) {
 }
 
 /// Places a reference in a quarter turn, sometimes through an inner reference.
-fn placed(sheet: &mut Sheet, rng: &mut Rng, mut reference: Reference) -> u32 {
+pub fn placed(sheet: &mut Sheet, rng: &mut Rng, mut reference: Reference) -> u32 {
     reference.origin = [rng.range(-20, 20) as f64, rng.range(-20, 20) as f64];
     (reference.cos, reference.sin) = rng.pick(&QUARTERS);
     reference.reflection = rng.chance(1, 3);

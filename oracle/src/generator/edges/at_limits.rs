@@ -82,7 +82,7 @@ fn finish(mut sheet: Sheet, fill: Vec<u32>, letters: &str, filling: Vec<u32>, rn
 }
 
 /// Grids of one source with so many members in all.
-fn grids(sheet: &mut Sheet, source: Source, bbox: [f64; 4], count: u16) -> Vec<u32> {
+pub fn grids(sheet: &mut Sheet, source: Source, bbox: [f64; 4], count: u16) -> Vec<u32> {
     let mut references = Vec::new();
     let mut left = count;
     while left > 0 {
