@@ -25,9 +25,9 @@ extern "C" {
 #endif
 
 #define RIBALTZEN_VERSION_MAJOR 0
-#define RIBALTZEN_VERSION_MINOR 4
+#define RIBALTZEN_VERSION_MINOR 5
 #define RIBALTZEN_VERSION_PATCH 0
-#define RIBALTZEN_VERSION "0.4.0"
+#define RIBALTZEN_VERSION "0.5.0"
 
 /* What the functions return: 0, else the refusal's number. ribaltzen_refusal has the question answered "no". */
 enum {

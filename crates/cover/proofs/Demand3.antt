@@ -1,21 +1,21 @@
 -- DEMAND 3 of the rules: the parts joined. `covered` is the cover's claims together with what each claiming event says.
 -- Assumes nothing.
-use mathlib.Core.Path.{_≡_, refl, sym, _∙_, subst}
-use mathlib.Core.List.{List, [], _∷_}
+use mathlib.Core.Path.{refl, sym, _∙_, subst}
+use mathlib.Core.List.{List, []}
 use Rattle.abstract_sheet.specs.Sheet.{Sheet}
 use Rattle.exact.specs.Screen.{ZoomWithin}
-use Rattle.plan_rules.specs.Event.{Event, nodeGridLimit, Step, member, emptyPlan}
+use Rattle.plan_rules.specs.Event.{Event, Step, emptyPlan}
 use Rattle.plan_rules.specs.World.{Query, World, world}
 use Rattle.plan_rules.specs.Plan.{plan}
 use Rattle.plan_rules.specs.Tape.{note}
 use Rattle.cover.specs.Path.{Path, Item}
 use Rattle.cover.specs.Trace.{enter, pathOf}
-use Rattle.cover.specs.Covered.{IsSkip, Skipped, MeetsLimit, Covers, listed, within-proxy, within-dropped-proxy, in-skipped, follows}
+use Rattle.cover.specs.Covered.{IsSkip, Skipped, Covers, listed, within-proxy, within-dropped-proxy, in-skipped}
 use Rattle.cover.specs.Demand3.{Demand3OfRules}
 use Rattle.cover.proofs.TagPaths.{Tagged, back-path, back-whole, paths-any, paths-all, any-all, any-map, all-map}
-use Rattle.cover.proofs.Cover.Claims.{Claims, by-record, by-proxy, by-dropped, by-skip, by-limit}
+use Rattle.cover.proofs.Cover.Claims.{Claims, by-record, by-proxy, by-dropped, by-skip}
 use Rattle.cover.proofs.Cover.Visits.{plan-claims}
-use Rattle.cover.proofs.EventFacts.{EventFact, skipped-fact, limit-fact, plan-facts, plan-listed}
+use Rattle.cover.proofs.EventFacts.{EventFact, skipped-fact, plan-facts, plan-listed}
 use Rattle.cover.proofs.Once.Visits.{plan-once, no-path-twice}
 use Rattle.cover.proofs.Tally.{plan-drops-when-full}
 
@@ -25,7 +25,6 @@ covers S q zoom p h t e (by-record z l) s = subst (λ (r : Path). Covers S q p h
 covers S q zoom p h t e (by-proxy i w) s = within-proxy i w
 covers S q zoom p h t e (by-dropped i w) s = within-dropped-proxy i w
 covers S q zoom p h t e (by-skip r z k) s = in-skipped r (skipped-fact S q zoom t e s k) (sym z ∙ back-path t r)
-covers S q zoom p h t e (by-limit {t = u} x y r z late) s = follows x y r (s .1) late (sym z ∙ back-path u (member x y ∷ r))
 
 pub demand-3-of-rules : Demand3OfRules
 demand-3-of-rules S square true-boxes few q brought cells counts marks =
@@ -40,5 +39,4 @@ demand-3-of-rules S square true-boxes few q brought cells counts marks =
       once = no-path-twice tagged (plan-once S cells q counts marks);
       dropped = plan-drops-when-full S cells q counts marks;
       skipped = paths-all (λ (x : Path × Event). IsSkip (x .1) → Skipped S q (x .0) (x .1)) tagged (all-map _ (λ x s. skipped-fact S q (brought .zoom) (x .0) (x .1) s) facts);
-      limits = paths-all (λ (x : Path × Event). x .1 ≡ nodeGridLimit → MeetsLimit S q (x .0)) tagged (all-map _ (λ x s. limit-fact S q (x .0) (x .1) s) facts);
     }

@@ -1,5 +1,5 @@
--- WHAT EACH EVENT SAYS IS SO: a record lists the item to which its path leads, at its exact placement; what is skipped is measured under one pixel both ways; and only a grid of
--- bare node points meets a limit. One use of the rules' induction, with the way from the root as the tag. True boxes are not needed, and zoom only where something is skipped.
+-- WHAT EACH EVENT SAYS IS SO: a record lists the item to which its path leads, at its exact placement; and what is skipped is measured under one pixel both ways.
+-- One use of the rules' induction, with the way from the root as the tag. True boxes are not needed, and zoom only where something is skipped.
 -- Assumes nothing.
 use mathlib.Core.Path.{_≡_, refl, subst}
 use mathlib.Core.List.{List, [], _∷_, _++_, append-nil}
@@ -23,33 +23,22 @@ use Rattle.exact.specs.Placement.{ExactPlacement, identity, IsPlacement, AtLeve
 use Rattle.exact.specs.Screen.{ZoomWithin}
 use Rattle.exact.proofs.Placements.Levels.{identity-level}
 use Rattle.exact.proofs.Placements.Moving.{identity-exact}
-use Rattle.plan_rules.specs.Event.{Event, batch, text, point, proxy, droppedProxy, skippedMember, skippedBatch, culledReference, culledBatch, nodeGridLimit, detailCell, totals, Step, batchAt, textAt, nodeAt, referenceAt, member, pointAt, emptyPlan}
+use Rattle.plan_rules.specs.Event.{Event, batch, text, point, proxy, droppedProxy, skippedMember, skippedBatch, culledReference, culledBatch, detailCell, totals, Step, batchAt, textAt, nodeAt, referenceAt, member, pointAt, emptyPlan}
 use Rattle.plan_rules.specs.World.{Query, World, world}
 use Rattle.plan_rules.specs.Plan.{plan}
 use Rattle.plan_rules.specs.Tape.{note}
-use Rattle.plan_rules.proofs.Simulation.{IsNode}
 use Rattle.plan_rules.proofs.Simulation.Premises.{Premises}
 use Rattle.paths.specs.Square.{Square, FewMembers}
 use Rattle.paths.proofs.Square.{bounds-square, reference-grid}
-use Rattle.cover.specs.Path.{Path, Item, aBatch, aText, aPoint, memberAt, StepLeads, to-batch, to-text, to-node, to-reference, through-member, at-batch, at-text, at-point, LeadsTo, Reaches}
+use Rattle.cover.specs.Path.{Path, Item, aBatch, aText, aPoint, memberAt, StepLeads, to-batch, to-text, to-node, to-reference, through-member, at-batch, at-text, at-point, LeadsTo}
 use Rattle.cover.specs.Trace.{enter, pathOf, events, All, IsRecord, batch-record, text-record, point-record}
-use Rattle.cover.specs.Covered.{lists-batch, lists-text, lists-point, IsSkip, member-skip, batch-skip, Skipped, skipped-member, skipped-batch, BareNodeGrid, bare-node-grid, MeetsLimit, meets-limit, ListsItsPath}
+use Rattle.cover.specs.Covered.{lists-batch, lists-text, lists-point, IsSkip, member-skip, batch-skip, Skipped, skipped-member, skipped-batch, ListsItsPath}
 use Rattle.cover.proofs.TagPaths.{Tagged, TagLeads, start, on, tag-reaches, tag-leads, paths-all, all-map}
 use Rattle.cover.proofs.EveryEvent.{every-event}
 use Rattle.cover.proofs.Exactness.{placed-box, moved-point, member-placed, member-under-one-pixel, batch-under-one-pixel}
 
 module _ (S : Sheet) (q : Query) where
   -- ---- what an event says, by its tag
-
-  -- a grid of bare node points, and one of its members: the tag's last step
-  abbrev pub LimitAt : List Step → Type 0
-  LimitAt [] = ⊥
-  LimitAt (batchAt i ∷ t) = ⊥
-  LimitAt (textAt i ∷ t) = ⊥
-  LimitAt (nodeAt i ∷ t) = ⊥
-  LimitAt (referenceAt i ∷ t) = ⊥
-  LimitAt (member column row ∷ t) = (r : PreparedReference) × BareNodeGrid S q (pathOf t) r × (column < r .grid .columns) × (row < r .grid .rows)
-  LimitAt (pointAt j ∷ t) = ⊥
 
   abbrev pub EventFact : List Step → Event → Type 0
   EventFact t (batch n p) = ListsItsPath S q (pathOf t) (batch n p)
@@ -61,7 +50,6 @@ module _ (S : Sheet) (q : Query) where
   EventFact t (skippedBatch b) = ZoomWithin (q .zoom) → Skipped S q (pathOf t) (skippedBatch b)
   EventFact t culledReference = Unit {0}
   EventFact t culledBatch = Unit {0}
-  EventFact t nodeGridLimit = LimitAt t
   EventFact t detailCell = Unit {0}
   EventFact t (totals s) = Unit {0}
 
@@ -73,18 +61,6 @@ module _ (S : Sheet) (q : Query) where
   pub skipped-fact : ZoomWithin (q .zoom) → (t : List Step) (e : Event) → EventFact t e → IsSkip e → Skipped S q (pathOf t) e
   skipped-fact zoom t e s member-skip = s zoom
   skipped-fact zoom t e s batch-skip = s zoom
-
-  limit-at : (t : List Step) → LimitAt t → MeetsLimit S q (pathOf t)
-  limit-at [] k = absurd k
-  limit-at (batchAt i ∷ t) k = absurd k
-  limit-at (textAt i ∷ t) k = absurd k
-  limit-at (nodeAt i ∷ t) k = absurd k
-  limit-at (referenceAt i ∷ t) k = absurd k
-  limit-at (member column row ∷ t) k = meets-limit (k .1) (k .2) (k .3)
-  limit-at (pointAt j ∷ t) k = absurd k
-
-  pub limit-fact : (t : List Step) (e : Event) → EventFact t e → e ≡ nodeGridLimit → MeetsLimit S q (pathOf t)
-  limit-fact t e s z = limit-at t (subst (EventFact t) z s)
 
   module _ (few : FewMembers S) (sq : Square S) where
     -- Where a visit with depth d stands: the tag is a way from the root to the source, the floats are its exact placement, and there is room for d more levels.
@@ -150,14 +126,6 @@ module _ (S : Sheet) (q : Query) where
         let i = placed-box (h .level) (omega arith) p (h .exact) (h .is) (h .near) (g .bbox) (sq .geometry n g e) in
         skipped-batch (tag-reaches (h .led)) e i (batch-under-one-pixel (q .zoom) zoom (h .exact) (g .bbox) (sq .geometry n g e) (transformBbox p (g .bbox)) i k)
 
-    -- only a node's visit halts
-    bare : (p : Path) (n : ℕ) (T : ExactPlacement) (r : PreparedReference) → Reaches S (q .root) p (Reference n) T → S .reference n ≡ some r → (s : PreparedSource) → r .source ≡ s → IsNode s → BareNodeGrid S q p r
-    bare p n T r w e (Geometry m) es k = absurd k
-    bare p n T r w e (Text m) es k = absurd k
-    bare p n T r w e (Node m) es k = bare-node-grid w e es
-    bare p n T r w e (Reference m) es k = absurd k
-    bare p n T r w e (Cell m) es k = absurd k
-
     premises : Premises enter S q Stands EventFact
     premises = record {
       at-batch = λ d t n c i p h e l. listed-place d t (Cell n) p (batchAt i) (Geometry (c .geometries .at i)) h (to-batch e l);
@@ -175,7 +143,6 @@ module _ (S : Sheet) (q : Query) where
       culled-reference = λ t. tt;
       culled-batch = λ t. tt;
       detail-cell = λ t. tt;
-      node-grid-limit = λ d t n r x y p h e x< y< k. (r, bare (pathOf t) n (h .exact) r (tag-reaches (h .led)) e (r .source) refl k, x<, y<);
     }
 
     -- ---- the plan

@@ -1,20 +1,23 @@
 -- CONTROLLED OPPOSITES: plans of rules that are changed in one place. Each leaves a trace that differs from the rules' in that place, and demand 3 is false of it.
---     load left out at a limit · proxy with the wrong box · culling by the wrong edge · skipping on one side only · a member skipped at a circle · a path listed twice · a proxy dropped too early
--- Beside each stands the trace that the rules leave. Last, events that are not written: a limit invented covers what follows it, so `IsTape` ties the trace to the rules.
+--     load left out at a limit · proxy with the wrong box · culling by the wrong edge · skipping on one side only · a member skipped at a circle · a path listed twice · a proxy dropped too early ·
+--     the whole reference's box left out where a node grid meets a limit
+-- Beside each stands the trace that the rules leave. Last, events that are not written: a dropped proxy invented covers what it holds, so `IsTape` ties the trace to the rules.
 -- Assumes nothing.
 use mathlib.Core.Path.{_≡_, refl, sym, ap, _∙_, subst}
 use mathlib.Core.Logic.{_⊎_, inl, inr}
 use mathlib.Core.Bool.{Bool, false}
 use mathlib.Core.List.{List, [], _∷_}
-use Prim.Native.Nat.{ℕ, _+_, _≤_}
+use Prim.Native.Nat.{ℕ, zero, suc, _+_, _≤_}
 use native.Mathlib.Omega.{arith}
+use lib.Dec.{T as Yes}
 use lib.ListN.{length, replicate}
 use lib.IntN.{negsuc}
 use lib.Ieee.{fin}
 use Rattle.geometry.specs.declared.bbox.WorldBBox.{WorldBBox}
 use Rattle.geometry.specs.Placement.{IDENTITY}
-use Rattle.records.specs.declared.PreparedSource.the-variants.{Node, Reference, Cell}
+use Rattle.records.specs.declared.PreparedSource.the-variants.{Node, Cell}
 use Rattle.records.specs.declared.PreparedText.{PreparedText}
+use Rattle.records.specs.Sources.{noLabel}
 use Rattle.records.specs.declared.PreparedGeometry.{PreparedGeometry}
 use Rattle.records.specs.declared.PreparedReference.{PreparedReference}
 use Rattle.abstract_sheet.specs.Sheet.{NodeRecord, CellRecord, Sheet}
@@ -22,19 +25,22 @@ use Rattle.exact.specs.Placement.{ExactPlacement, identity}
 use Rattle.exact.specs.Box.{IntegerBox, Holds, IsBox, boxOf}
 use Rattle.exact.specs.Screen.{isUnderOnePixel}
 use Rattle.exact.proofs.Floats.Reading.{integerOf-same}
+use Rattle.plan_rules.specs.Limits.{maxLoadProxies}
 use Rattle.plan_rules.specs.declared.Reason.the-variants as reason
-use Rattle.plan_rules.specs.Event.{Event, batch, text, point, proxy, droppedProxy, skippedMember, skippedBatch, culledReference, culledBatch, nodeGridLimit, detailCell, totals, batchAt, textAt, referenceAt, member, pointAt, emptyPlan}
+use Rattle.plan_rules.specs.Event.{Event, batch, text, point, proxy, droppedProxy, skippedMember, skippedBatch, culledReference, culledBatch, detailCell, totals, batchAt, textAt, referenceAt, member, pointAt, emptyPlan}
 use Rattle.plan_rules.specs.World.{Query}
 use Rattle.plan_rules.specs.Outcome.{Outcome}
 use Rattle.plan_rules.proofs.Cases.Opened.{opened}
 use Rattle.plan_rules.specs.Samples.{whole, spot, page, sheetOfLists, batchOf, textAtSpot, nodeOf, refer, cellOf, viewing}
-use Rattle.cover.specs.Path.{Path, Item, aBatch, aText, aPoint, memberAt, to-batch, to-text, to-reference, through-member, at-batch, at-text, step, LeadsTo, Reaches, at-root, further}
+use Rattle.paths.proofs.Square.{box-is}
+use Rattle.cover.specs.Path.{Path, Item, aBatch, aText, aPoint, memberAt, to-batch, to-text, to-reference, through-member, at-batch, at-text, at-point, step, LeadsTo}
 use Rattle.cover.specs.View.{textPosition, WithinBox, InView}
-use Rattle.cover.specs.Trace.{Trace, events, All, and-then, Any, here, before, text-record}
+use Rattle.cover.specs.Trace.{Trace, events, All, and-then, Any, here, before, text-record, listedProxies}
 use Rattle.geometry.specs.Bbox.{sourceIsDegenerate}
 use Rattle.screen.specs.Screen.{screenSize}
-use Rattle.cover.specs.Covered.{UnderOnePixel, Lists, lists-batch, lists-text, lists-point, IsSkip, batch-skip, Skipped, skipped-member, skipped-batch, BareNodeGrid, bare-node-grid, MeetsLimit, meets-limit, Covers, Covered, listed, within-proxy, within-dropped-proxy, in-skipped, follows}
+use Rattle.cover.specs.Covered.{UnderOnePixel, Lists, lists-batch, lists-text, lists-point, IsSkip, batch-skip, Skipped, skipped-member, skipped-batch, DroppedWhenFull, Covers, Covered, listed, within-proxy, within-dropped-proxy, in-skipped}
 use Rattle.cover.specs.Demand3.{LosesNothing, eventsOf, IsTape}
+use Rattle.cover.proofs.Examples.Decided.{isSquareBox, square-box}
 use Rattle.cover.proofs.Examples.Boxes.{whole-same, box, box-holds, withoutTotals}
 
 -- ---- how an event covers a path, by the event
@@ -50,7 +56,6 @@ module _ (S : Sheet) (q : Query) where
   CoverOf p h place (skippedBatch b) = Skipped S q place (skippedBatch b)
   CoverOf p h place culledReference = ⊥
   CoverOf p h place culledBatch = ⊥
-  CoverOf p h place nodeGridLimit = Unit {0}
   CoverOf p h place detailCell = ⊥
   CoverOf p h place (totals s) = ⊥
 
@@ -68,7 +73,6 @@ module _ (S : Sheet) (q : Query) where
   cover-of (within-proxy {z = z} i w) = (z, i, w)
   cover-of (within-dropped-proxy {z = z} i w) = (z, i, w)
   cover-of {p = p} {h = h} {place = place} {e = e} (in-skipped r s z) = skipped-cover p h place e s
-  cover-of (follows x y r g late z) = tt
 
 -- ---- one text: document 01's worked sheet
 
@@ -255,52 +259,99 @@ skipped-at-circle l = by (l .covered roundPath (aText 0 label once) round-leads 
     by (before (here c)) = cover-of circular deep c
     by (before (before a)) = elim a [ ]
 
--- ---- a grid of two bare nodes, each with one point
+-- ---- a grid of two bare nodes, each with two points, where one object may be listed
 
-abbrev dot : NodeRecord
-dot = nodeOf (spot 10 20 ∷ [])
+abbrev dots : NodeRecord
+dots = nodeOf (spot 10 20 ∷ spot 40 50 ∷ [])
 
-abbrev dots : PreparedReference
-dots = refer 1 2 0 40 (Node 0) (box 10 20 10 20)
+abbrev dotGrid : PreparedReference
+dotGrid = refer 1 2 0 40 (Node 0) (box 10 20 40 50)
 
 abbrev dottedCell : CellRecord
 dottedCell = cellOf 0 (page 100 100) [] [] [] (0 ∷ [])
 
 abbrev dotted : Sheet
-dotted = sheetOfLists [] [] (dot ∷ []) (dots ∷ []) (dottedCell ∷ [])
+dotted = sheetOfLists [] [] (dots ∷ []) (dotGrid ∷ []) (dottedCell ∷ [])
 
--- the rules list both points
-abbrev bothDots : Trace
-bothDots = (referenceAt 0 ∷ member 0 1 ∷ pointAt 0 ∷ [], point 1 2 (spot 10 60)) ∷ (referenceAt 0 ∷ member 0 0 ∷ pointAt 0 ∷ [], point 1 2 (spot 10 20)) ∷ ([], detailCell) ∷ []
+abbrev short : Query
+short = viewing (page 100 100) (whole 1) 3 1
 
-dots-plan : withoutTotals (events dotted 1 deep (replicate 3 0) (replicate 5 0)) ≡ bothDots
+-- the first member up to the limit, as the Rust leaves it
+abbrev firstMember : Trace
+firstMember = (referenceAt 0 ∷ member 0 0 ∷ [], proxy reason.OtherLimit noLabel (box 10 20 40 50)) ∷ (referenceAt 0 ∷ member 0 0 ∷ pointAt 0 ∷ [], point 1 2 (spot 10 20)) ∷ ([], detailCell) ∷ []
+
+-- the rules add the box of the whole reference
+dots-plan : withoutTotals (events dotted 1 short (replicate 3 0) (replicate 5 0)) ≡ (referenceAt 0 ∷ [], proxy reason.OtherLimit noLabel (box 10 20 40 90)) ∷ firstMember
 unfolding opened
 dots-plan = refl
 
--- the second point left out, and a limit invented at the first member
-abbrev invented : Trace
-invented = (referenceAt 0 ∷ member 0 0 ∷ [], nodeGridLimit) ∷ (referenceAt 0 ∷ member 0 0 ∷ pointAt 0 ∷ [], point 1 2 (spot 10 20)) ∷ ([], detailCell) ∷ []
+-- the second point of the second member
+abbrev latePath : Path
+latePath = referenceAt 0 ∷ member 0 1 ∷ pointAt 1 ∷ []
 
-reaches-dots : Reaches dotted 0 (referenceAt 0 ∷ []) (Reference 0) identity
-reaches-dots = further at-root (to-reference {n = 0} {i = 0} {c = dottedCell} refl (omega arith))
+abbrev lateDot : Item
+lateDot = aPoint 0 dots 1 (memberAt identity dotGrid 0 1)
 
-bare : BareNodeGrid dotted deep (referenceAt 0 ∷ []) dots
-bare = bare-node-grid reaches-dots refl refl
+late-leads : LeadsTo dotted 0 latePath lateDot
+late-leads = step (to-reference {n = 0} {i = 0} {c = dottedCell} refl (omega arith)) (step (through-member {n = 0} {column = 0} {row = 1} {r = dotGrid} refl (omega arith) (omega arith)) (at-point {j = 1} {x = dots} refl (omega arith)))
 
--- the limit is one that the words allow, and the second point follows it
-invented-meets : MeetsLimit dotted deep (referenceAt 0 ∷ member 0 0 ∷ [])
-invented-meets = meets-limit {column = 0} {row = 0} bare (omega arith) (omega arith)
+late-seen : InView (page 100 100) lateDot
+unfolding opened
+late-seen = record { left = omega arith; right = omega arith; bottom = omega arith; top = omega arith }
 
-invented-covers : Covered dotted deep (referenceAt 0 ∷ member 0 1 ∷ pointAt 0 ∷ []) (aPoint 0 dot 0 (memberAt identity dots 0 1)) invented
-invented-covers = here (follows {column = 0} {row = 0} 0 1 (pointAt 0 ∷ []) bare (inr (refl, omega arith)) refl)
+-- it stands at (40, 90), which the member's box does not hold
+beyond : (z : IntegerBox) → IsBox (box 10 20 40 50) z → WithinBox lateDot z → ⊥
+unfolding opened
+beyond z i h =
+    let k = h .top in
+    let e = integerOf-same (whole 50) (z .«max_y») (i .«max_y») in
+    let f = whole-same 50 (omega arith) in
+    let y : ⊥ = omega arith in
+    y
+
+-- without that box
+reference-box-left-out : LosesNothing dotted short firstMember → ⊥
+reference-box-left-out l = by (l .covered latePath lateDot late-leads late-seen tt)
+  where
+    by : Any (λ (x : Path × Event). Covers dotted short latePath lateDot (x .0) (x .1)) firstMember → ⊥
+    by (here c) = let k = cover-of dotted short c in beyond (k .0) (k .1) (k .2)
+    by (before (here c)) = let e = (cover-of dotted short c) .0 in let z : _≡_ {A = ℕ} 0 1 = cc in let y : ⊥ = omega arith in y
+    by (before (before (here c))) = cover-of dotted short c
+    by (before (before (before a))) = elim a [ ]
+
+-- ---- a dropped proxy invented, behind a full list of boxes that do not hold the text
+
+abbrev elsewhere : Path × Event
+elsewhere = ([], proxy reason.OtherLimit 0 (page 5 5))
+
+abbrev invented : ℕ → Trace
+invented n = ([], droppedProxy reason.OtherLimit 0 (page 100 100)) ∷ replicate n elsewhere
+
+-- the words allow it behind 100,000, and it covers the text
+all-listed : (n : ℕ) → listedProxies (replicate n elsewhere) ≡ n
+all-listed zero = refl
+all-listed (suc n) = ap (λ (k : ℕ). 1 + k) (all-listed n) ∙ (omega arith)
+
+none-dropped : (n : ℕ) → DroppedWhenFull (replicate n elsewhere)
+none-dropped zero = tt
+none-dropped (suc n) = (λ why label box e. absurd (let z : _≡_ {A = ℕ} 0 1 = cc in let y : ⊥ = omega arith in y), none-dropped n)
+
+invented-when-full : (n : ℕ) → n ≡ maxLoadProxies → DroppedWhenFull (invented n)
+invented-when-full n full = (λ why label box e. all-listed n ∙ full, none-dropped n)
+
+invented-covers : (n : ℕ) → Covered labelled (see 0) labelPath (aText 0 label identity) (invented n)
+invented-covers n = here (within-dropped-proxy (box-is (page 100 100) (square-box (page 100 100) passes)) seen)
+  where
+    passes : Yes (isSquareBox (page 100 100))
+    passes = unfold opened in tt
 
 abbrev newest : Trace → Event
 newest [] = detailCell
 newest (x ∷ l) = x .1
 
 -- but it is not what the rules leave, as `IsTape` asks
-limit-invented : withoutTotals (events dotted 1 deep (replicate 3 0) (replicate 5 0)) ≡ invented → ⊥
-limit-invented e = let f : point 1 2 (spot 10 60) ≡ nodeGridLimit = ap newest (sym dots-plan ∙ e) in let z : _≡_ {A = ℕ} 0 1 = cc in let y : ⊥ = omega arith in y
+dropped-invented : (n : ℕ) → events labelled 1 (see 0) (replicate 1 0) (replicate 3 0) ≡ invented n → ⊥
+dropped-invented n e = let f = ap newest (sym limit-plan ∙ e) in let z : _≡_ {A = ℕ} 0 1 = cc in let y : ⊥ = omega arith in y
 
 -- of any call: no event can be added, written or not
 event-added : (sheet : List ℕ) (q : Query) (o : Outcome) (lent : List ℕ) (x : Path × Event) → IsTape sheet q o (x ∷ eventsOf sheet q) lent → ⊥

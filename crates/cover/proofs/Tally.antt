@@ -11,7 +11,7 @@ use Rattle.abstract_sheet.specs.Sheet.{Sheet}
 use Rattle.plan_rules.specs.declared.ScenePlan.{ScenePlan}
 use Rattle.plan_rules.specs.Limits.{maxLoadProxies}
 use Rattle.plan_rules.specs.declared.Reason.{Reason}
-use Rattle.plan_rules.specs.Event.{Event, batch, text, point, proxy, droppedProxy, skippedMember, skippedBatch, culledReference, culledBatch, nodeGridLimit, detailCell, totals, Step, saturate, _⊞_, emptyPlan, amounts, after}
+use Rattle.plan_rules.specs.Event.{Event, batch, text, point, proxy, droppedProxy, skippedMember, skippedBatch, culledReference, culledBatch, detailCell, totals, Step, saturate, _⊞_, emptyPlan, amounts, after}
 use Rattle.plan_rules.specs.World.{Query, world}
 use Rattle.plan_rules.specs.Plan.{plan}
 use Rattle.plan_rules.specs.Tape.{note}
@@ -42,7 +42,6 @@ droppedIn (skippedMember g b) = 0
 droppedIn (skippedBatch b) = 0
 droppedIn culledReference = 0
 droppedIn culledBatch = 0
-droppedIn nodeGridLimit = 0
 droppedIn detailCell = 0
 droppedIn (totals s) = 0
 
@@ -88,7 +87,6 @@ keeps t (skippedMember g b) s room l h = other t (skippedMember g b) s l refl re
 keeps t (skippedBatch b) s room l h = other t (skippedBatch b) s l refl refl h
 keeps t culledReference s room l h = other t culledReference s l refl refl h
 keeps t culledBatch s room l h = other t culledBatch s l refl refl h
-keeps t nodeGridLimit s room l h = other t nodeGridLimit s l refl refl h
 keeps t detailCell s room l h = other t detailCell s l refl refl h
 keeps t (totals u) s room l h = other t (totals u) s l refl refl h
 

@@ -1,8 +1,6 @@
--- COVERED: what an event of a plan does for a path. A path is listed, lies within the box of a proxy that is listed or dropped, lies in something skipped,
--- or follows the member at which a grid of bare node points met a limit.
+-- COVERED: what an event of a plan does for a path. A path is listed, lies within the box of a proxy that is listed or dropped, or lies in something skipped.
 -- Definitions only; rests on paths, the view's words, the trace and the rules' measures. Assumes nothing.
 use mathlib.Core.Path.{_≡_}
-use mathlib.Core.Logic.{_⊎_}
 use mathlib.Core.Bool.{Bool}
 use mathlib.Core.List.{[], _∷_, _++_}
 use mathlib.Core.Option.{some}
@@ -14,7 +12,7 @@ use Rattle.geometry.specs.declared.bbox.WorldBBox.{WorldBBox}
 use Rattle.screen.specs.declared.ScreenSize.{ScreenSize}
 use Rattle.geometry.specs.Bbox.{boxed, sourceIsDegenerate}
 use Rattle.screen.specs.Screen.{screenSize, referenceScreenSize}
-use Rattle.records.specs.declared.PreparedSource.the-variants.{Geometry, Node, Reference}
+use Rattle.records.specs.declared.PreparedSource.the-variants.{Geometry, Reference}
 use Rattle.records.specs.declared.PreparedGeometry.{PreparedGeometry}
 use Rattle.records.specs.declared.PreparedText.{PreparedText}
 use Rattle.records.specs.declared.PreparedReference.{PreparedReference}
@@ -24,7 +22,7 @@ use Rattle.exact.specs.Box.{IntegerBox, IsBox, boxOf, place}
 use Rattle.exact.specs.Screen.{isUnderOnePixel}
 use Rattle.plan_rules.specs.Limits.{maxLoadProxies}
 use Rattle.plan_rules.specs.declared.Reason.{Reason}
-use Rattle.plan_rules.specs.Event.{Event, batch, text, point, proxy, droppedProxy, skippedMember, skippedBatch, nodeGridLimit, member}
+use Rattle.plan_rules.specs.Event.{Event, batch, text, point, proxy, droppedProxy, skippedMember, skippedBatch, member}
 use Rattle.plan_rules.specs.World.{Query}
 use Rattle.cover.specs.Path.{Path, Item, aBatch, aText, aPoint, memberAt, Reaches, LeadsTo}
 use Rattle.cover.specs.View.{placedBatch, textPosition, pointPosition, WithinBox}
@@ -61,12 +59,6 @@ pub data IsSkip : Event → Type 0 where
 abbrev pub UnderOnePixel : ScreenSize → Type 0
 UnderOnePixel size = Yes (isUnderOnePixel size)
 
--- ---- the order of members
-
--- later "in the rules' order": column by column
-abbrev pub Later : ℕ → ℕ → ℕ → ℕ → Type 0
-Later column row column′ row′ = (column < column′) ⊎ ((column ≡ column′) × (row < row′))
-
 module _ (S : Sheet) (q : Query) where
   -- "something skipped": "a member, or .. a batch, whose placed box the rules measure under one pixel in width and in height"
   pub data Skipped : Path → Event → Type 0 where
@@ -77,16 +69,6 @@ module _ (S : Sheet) (q : Query) where
     skipped-batch : {p : Path} {n : ℕ} {T : ExactPlacement} {g : PreparedGeometry} {box : WorldBBox} → Reaches S (q .root) p (Geometry n) T → S .geometry n ≡ some g
         → IsBox box (placedBatch g T) → UnderOnePixel (screenSize box (q .zoom)) → Skipped p (skippedBatch box)
 
-  -- ---- a grid of bare node points
-
-  -- "A grid of bare node points is a reference, as a path reaches it, whose source is a node"
-  pub data BareNodeGrid : Path → PreparedReference → Type 0 where
-    bare-node-grid : {p : Path} {n k : ℕ} {T : ExactPlacement} {r : PreparedReference} → Reaches S (q .root) p (Reference n) T → S .reference n ≡ some r → r .source ≡ Node k → BareNodeGrid p r
-
-  -- "it meets a limit at the member that the rules box for a limit"
-  pub data MeetsLimit : Path → Type 0 where
-    meets-limit : {p : Path} {r : PreparedReference} {column row : ℕ} → BareNodeGrid p r → column < r .grid .columns → row < r .grid .rows → MeetsLimit (p ++ member column row ∷ [])
-
   -- ---- covered
 
   -- what an event, at the path where it happened, does for a path p to the item h
@@ -96,9 +78,6 @@ module _ (S : Sheet) (q : Query) where
     within-dropped-proxy : {place : Path} {why : Reason} {label : ℕ} {box : WorldBBox} {z : IntegerBox} → IsBox box z → WithinBox h z → Covers p h place (droppedProxy why label box)
     -- "A path lies in something skipped if it leads through a member, or to a batch" that is skipped
     in-skipped : {place : Path} {e : Event} (rest : Path) → Skipped place e → p ≡ place ++ rest → Covers p h place e
-    -- "paths through its later members, in the rules' order, follow"
-    follows : {grid : Path} {r : PreparedReference} {column row : ℕ} (column′ row′ : ℕ) (rest : Path) → BareNodeGrid grid r → Later column row column′ row′ → p ≡ grid ++ member column′ row′ ∷ rest
-        → Covers p h (grid ++ member column row ∷ []) nodeGridLimit
 
   -- by some event of the plan
   abbrev pub Covered : Path → Item → Trace → Type 0

@@ -1,7 +1,7 @@
 -- DEMAND 3, the statement. The customer: "There is no text, node point or batch in view that a plan loses. For every square sheet with true boxes, and
 -- whatever root, depth, whole-number view, hidden layers and zoom up to 2^64 a reader brings, an accepted plan lists no path twice, and every path to an item
 -- in view on a shown layer is listed, or lies within the box of a proxy that is listed or was dropped because 100,000 were listed already, or lies in something
--- skipped as under one pixel both ways, or follows the member at which a grid of bare node points met a limit."
+-- skipped as under one pixel both ways". The exception that followed, the later members of a node grid that met a limit, fell with document 02's paper 5.
 -- Definitions only; proved in proofs/Demand3.antt. Assumes nothing.
 use mathlib.Core.Path.{_≡_}
 use mathlib.Core.Bool.{false}
@@ -14,7 +14,7 @@ use lib.ListN.{length, drop, replicate}
 use Rattle.abstract_sheet.specs.Sheet.{Sheet, sheetOf}
 use Rattle.exact.specs.Screen.{zoomPower, ZoomWithin}
 use Rattle.check_sheet.specs.Count.{countsOf}
-use Rattle.plan_rules.specs.Event.{Event, nodeGridLimit}
+use Rattle.plan_rules.specs.Event.{Event}
 use Rattle.plan_rules.specs.World.{Query}
 use Rattle.plan_rules.specs.Scratch.{countsNamed, marksNamed}
 use Rattle.plan_rules.specs.Tape.{tape}
@@ -24,12 +24,12 @@ use Rattle.paths.specs.TrueBoxes.{TrueBoxes}
 use Rattle.cover.specs.Path.{Path, Item, LeadsTo}
 use Rattle.cover.specs.View.{WholeView, InView, Shown}
 use Rattle.cover.specs.Trace.{Trace, events, All, IsRecord}
-use Rattle.cover.specs.Covered.{NoPathTwice, DroppedWhenFull, Covered, ListsItsPath, IsSkip, Skipped, MeetsLimit}
+use Rattle.cover.specs.Covered.{NoPathTwice, DroppedWhenFull, Covered, ListsItsPath, IsSkip, Skipped}
 
 -- ---- a plan that loses nothing, by its events
 
 pub record LosesNothing (S : Sheet) (q : Query) (trace : Trace) : Type 0 where
-  -- "every path to an item in view on a shown layer is listed, or lies within the box of a proxy .., or lies in something skipped .., or follows .."
+  -- "every path to an item in view on a shown layer is listed, or lies within the box of a proxy .., or lies in something skipped .."
   pub covered : (p : Path) (h : Item) → LeadsTo S (q .root) p h → InView (q .view) h → Shown (q .hidden) h → Covered S q p h trace
   -- "every record of kinds 11 to 13 lists one path"
   pub listed : All (λ (x : Path × Event). IsRecord (x .1) → ListsItsPath S q (x .0) (x .1)) trace
@@ -39,8 +39,6 @@ pub record LosesNothing (S : Sheet) (q : Query) (trace : Trace) : Type 0 where
   pub dropped : DroppedWhenFull trace
   -- "skipped as under one pixel both ways"
   pub skipped : All (λ (x : Path × Event). IsSkip (x .1) → Skipped S q (x .0) (x .1)) trace
-  -- "the member at which a grid of bare node points met a limit"
-  pub limits : All (λ (x : Path × Event). x .1 ≡ nodeGridLimit → MeetsLimit S q (x .0)) trace
 
 -- ---- of the rules
 
@@ -65,7 +63,7 @@ eventsOf sheet q =
     events (sheetOf sheet) cells q (replicate (countsNamed cells (q .depth)) 0) (replicate (marksNamed cells (q .depth)) 0)
 
 -- The trace is that of the rules, and the output is its records, totals last, and then what was lent. The records alone would leave open the events that
--- are not written: a limit or a dropped proxy could be invented.
+-- are not written: a dropped proxy could be invented.
 pub record IsTape (sheet : List ℕ) (q : Query) (o : Outcome) (trace : Trace) (lent : List ℕ) : Type 0 where
   pub ran : trace ≡ eventsOf sheet q
   pub tapeLength : o .tapeLength ≡ length (tape trace)

@@ -8,6 +8,7 @@
 --     Paths             the rules by code path, for proofs about code
 --     Memory            the lent scratch is the Rust's memory
 --     UnusedSites       document 02, paper 3
+--     NodeGrid          document 02, paper 5
 -- Assumes nothing.
 pub mod Cases
 pub mod Simulation
@@ -18,3 +19,4 @@ pub mod OutcomeTheorem
 pub mod Paths
 pub mod Memory
 pub mod UnusedSites
+pub mod NodeGrid

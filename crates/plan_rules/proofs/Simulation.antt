@@ -10,18 +10,8 @@ use mathlib.Core.List.{List}
 use Prim.Native.Nat.{ℕ, zero, suc, _+_, _<_}
 use native.Mathlib.Omega.{arith}
 use lib.Dec.{T as Yes}
-use Rattle.records.specs.declared.PreparedSource.{PreparedSource}
-use Rattle.records.specs.declared.PreparedSource.the-variants.{Geometry, Text, Node, Reference, Cell}
 use Rattle.plan_rules.specs.declared.ScenePlan.{ScenePlan}
 use Rattle.plan_rules.specs.World.{World, world, Flow, go, halt, bind, ending, each}
-
--- only a node's visit may halt: "`visit_source` returns false only for a node that met a limit"
-abbrev pub IsNode : PreparedSource → Type 0
-IsNode (Geometry n) = ⊥
-IsNode (Text n) = ⊥
-IsNode (Node n) = Unit {0}
-IsNode (Reference n) = ⊥
-IsNode (Cell n) = ⊥
 
 -- ---- related worlds: the same state and scratch, and R between what the events were sent to
 
@@ -31,11 +21,6 @@ pub data Related {A B : Type 0} (R : ScenePlan → A → B → Type 0) : World A
 pub data RelatedFlow {A B : Type 0} (R : ScenePlan → A → B → Type 0) : Flow A → Flow B → Type 0 where
   goes : {w : World A} {v : World B} → Related R w v → RelatedFlow R (go w) (go v)
   halts : {w : World A} {v : World B} → Related R w v → RelatedFlow R (halt w) (halt v)
-
--- the flow of a source's visit: only a node's halts
-pub data RelatedSource {A B : Type 0} (R : ScenePlan → A → B → Type 0) (x : PreparedSource) : Flow A → Flow B → Type 0 where
-  source-goes : {w : World A} {v : World B} → Related R w v → RelatedSource R x (go w) (go v)
-  source-halts : {w : World A} {v : World B} → IsNode x → Related R w v → RelatedSource R x (halt w) (halt v)
 
 module _ {A B : Type 0} (R : ScenePlan → A → B → Type 0) where
   pub the-relation : {w : World A} {v : World B} → Related R w v → R (w .state) (w .out) (v .out)
@@ -51,9 +36,6 @@ module _ {A B : Type 0} (R : ScenePlan → A → B → Type 0) where
 
   abbrev pub KeepsFlow : (World A → Flow A) → (World B → Flow B) → Type 0
   KeepsFlow f g = (s : ScenePlan) (a : A) (b : B) (k m : List ℕ) → R s a b → RelatedFlow R (f (world s a k m)) (g (world s b k m))
-
-  abbrev pub KeepsSource : PreparedSource → (World A → Flow A) → (World B → Flow B) → Type 0
-  KeepsSource x f g = (s : ScenePlan) (a : A) (b : B) (k m : List ℕ) → R s a b → RelatedSource R x (f (world s a k m)) (g (world s b k m))
 
   pub apply-sim : {w : World A} {v : World B} (f : World A → World A) (g : World B → World B) → Keeps f g → Related R w v → Related R (f w) (g v)
   apply-sim f g h (related {s} {a} {b} {k} {m} r) = h s a b k m r

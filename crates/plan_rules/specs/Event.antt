@@ -27,7 +27,6 @@ pub data Event : Type 0 where
   skippedBatch : WorldBBox → Event
   culledReference : Event  -- a reference or one of its members
   culledBatch : Event
-  nodeGridLimit : Event  -- "it meets a limit at the member that the rules box for a limit"
   detailCell : Event  -- a cell is visited in detail
   totals : ScenePlan → Event
 
@@ -58,7 +57,6 @@ fieldsOf (skippedMember degenerate b) = []
 fieldsOf (skippedBatch b) = []
 fieldsOf culledReference = []
 fieldsOf culledBatch = []
-fieldsOf nodeGridLimit = []
 fieldsOf detailCell = []
 fieldsOf (totals s) =
     header 15
@@ -134,7 +132,6 @@ countedIn (skippedMember degenerate box) = skippedReferences ∷ []
 countedIn (skippedBatch box) = skippedBatches ∷ []
 countedIn culledReference = culledReferences ∷ []
 countedIn culledBatch = culledBatches ∷ []
-countedIn nodeGridLimit = []
 countedIn detailCell = cells ∷ []
 countedIn (totals plan) = []
 

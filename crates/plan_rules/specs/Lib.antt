@@ -16,6 +16,7 @@
 --     Samples      small sheets and queries
 --     Readings     the readings at the edges that document 01 marks P, as document 02 changes them
 --     UnusedSites  document 02, paper 3: its sentences, as types
+--     NodeGrid     document 02, paper 5: its sentences, as types
 --     Statements   what is proved of the rules, as types
 -- Definitions only; the facts about them are in proofs/.
 pub mod Limits
@@ -35,4 +36,5 @@ pub mod MappedPlan
 pub mod Samples
 pub mod Readings
 pub mod UnusedSites
+pub mod NodeGrid
 pub mod Statements

@@ -93,8 +93,11 @@ addLoadIfBoxed why label box w = push.addLoadIfBoxed noTag onTape tt why label b
 abbrev pub haltWithCell : ℕ → Bounds → Flow (List ℕ) → Flow (List ℕ)
 haltWithCell n box x = visit.haltWithCell noTag onTape tt n box x
 
-abbrev pub haltWithMember : ℕ → WorldBBox → Flow (List ℕ) → Flow (List ℕ)
-haltWithMember l box x = visit.haltWithMember noTag onTape tt l box x
+abbrev pub loadMember : ℕ → WorldBBox → WorldBBox → Output → Output
+loadMember l box worldBox w = visit.loadMember noTag onTape tt tt l box worldBox w
+
+abbrev pub haltWithMember : ℕ → WorldBBox → WorldBBox → Flow (List ℕ) → Flow (List ℕ)
+haltWithMember l box worldBox x = visit.haltWithMember noTag onTape tt tt l box worldBox x
 
 module _ {f : Fixed} (g : Given f) where
   abbrev pub query : Query

@@ -19,11 +19,11 @@ use Rattle.screen.specs.Screen.{referenceScreenSize, isSubpixel, collapseTest, 
 use Rattle.records.specs.declared.PreparedSource.{PreparedSource}
 use Rattle.records.specs.declared.PreparedSource.the-variants.{Geometry, Text, Node, Reference, Cell}
 use Rattle.records.specs.declared.PreparedReference.{PreparedReference}
-use Rattle.records.specs.Sources.{label}
+use Rattle.records.specs.Sources.{noLabel, label}
 use Rattle.abstract_sheet.specs.Sheet.{CellRecord, Sheet}
 use Rattle.plan_rules.specs.declared.Reason.{Reason}
 use Rattle.plan_rules.specs.declared.Reason.the-variants as reason
-use Rattle.plan_rules.specs.Event.{Event, skippedMember, culledReference, nodeGridLimit, detailCell, Step, batchAt, textAt, nodeAt, referenceAt, member}
+use Rattle.plan_rules.specs.Event.{Event, skippedMember, culledReference, detailCell, Step, batchAt, textAt, nodeAt, referenceAt, member}
 use Rattle.plan_rules.specs.World.{Query, detailCellsFull, detailBudgetExhausted, World, world, Flow, go, halt, bind, ending, each, setMark}
 use Rattle.plan_rules.specs.Scratch.{openPlace, isMarked}
 use Rattle.plan_rules.specs.DrawUnits.{Units, referenceDrawUnits}
@@ -49,10 +49,14 @@ module _ {P A : Type 0} (enter : Step → P → P) (emit : P → Event → ℕ �
   haltWithCell t n box (go w) = go w
   haltWithCell t n box (halt w) = halt (addLoadIfBoxed enter emit t reason.OtherLimit n box w)
 
-  -- `visit_source` was `false`: the member's box is added, and the visit of the reference is over. Only a node's visit is `false`.
-  abbrev pub haltWithMember : P → ℕ → WorldBBox → Flow A → Flow A
-  haltWithMember t l box (go w) = go w
-  haltWithMember t l box (halt w) = halt (say enter emit t nodeGridLimit (addLoad enter emit t reason.OtherLimit l box w))
+  -- Document 02, paper 5: "Then the whole reference's box shall be added after the member's box, without a label, also if that member is the last."
+  abbrev pub loadMember : P → P → ℕ → WorldBBox → WorldBBox → World A → World A
+  loadMember t here l box worldBox w = addLoad enter emit t reason.OtherLimit noLabel worldBox (addLoad enter emit here reason.OtherLimit l box w)
+
+  -- `visit_source` was `false`: the member's box and the reference's are added, and the visit of the reference is over. Only a node's visit is `false`.
+  abbrev pub haltWithMember : P → P → ℕ → WorldBBox → WorldBBox → Flow A → Flow A
+  haltWithMember t here l box worldBox (go w) = go w
+  haltWithMember t here l box worldBox (halt w) = halt (loadMember t here l box worldBox w)
 
   -- the scratch as a count leaves it
   abbrev pub withScratch : Units → World A → World A
@@ -131,7 +135,7 @@ module _ {P A : Type 0} (enter : Step → P → P) (emit : P → Event → ℕ �
           (cond (not (overlaps box (q .view))) (go (say enter emit here culledReference w))
           (cond (isSubpixel size) (go (say enter emit here (skippedMember (sourceIsDegenerate sourceBox) box) w))
           (cond (collapses test) (go (addLoad enter emit here (collapseReason test) (label (r .source)) box w))
-          (haltWithMember here (label (r .source)) box (visit here (r .source) placement w)))))
+          (haltWithMember t here (label (r .source)) box worldBox (visit here (r .source) placement w)))))
 
       unfoldable pub columnStep : ℕ → ℕ → World A → Flow A
       columnStep units column w = each (memberStep units column) (r .grid .rows) 0 w

@@ -86,6 +86,6 @@ module _ {f : Fixed} (g : Given f) (on : VisitSource g) (d : ℕ) (r : PreparedR
         try-collapsed e v loaded = ap go (loaded ∙ ap (λ (n : ℕ). addLoad (collapseReason (testOf box)) n box w) (known .labelled)) ∙ (rw (room, ← known .boxed, seen, large, e))
 
         -- the source is left to be visited
-        pub try-opens : collapses (testOf box) ≡ false → haltWithMember (label (r .source)) box (on tt (r .source) placement w) ≡ step
+        pub try-opens : collapses (testOf box) ≡ false → haltWithMember (label (r .source)) box worldBox (on tt (r .source) placement w) ≡ step
         unfolding visit.memberStep
         try-opens e = rw (room, ← known .boxed, seen, large, e, known .at)

@@ -20,12 +20,12 @@ module _ {f : Fixed} (g : Given f) where
   member on depth r p sourceBox worldBox units i w = memberStep g on depth r p sourceBox worldBox units (i / (r .grid .rows)) (i % (r .grid .rows)) w
 
   -- the visit of its source; or whether the visit of the reference goes on
-  abbrev pub leftOfMember : VisitSource g → PreparedReference → Tried → Output → Flow (List ℕ)
-  leftOfMember on r t w = cond (t .opens) (haltWithMember (label (r .source)) (t .bbox) (on tt (r .source) (t .placement) w)) (flow (t .whole) w)
+  abbrev pub leftOfMember : VisitSource g → PreparedReference → WorldBBox → Tried → Output → Flow (List ℕ)
+  leftOfMember on r worldBox t w = cond (t .opens) (haltWithMember (label (r .source)) (t .bbox) worldBox (on tt (r .source) (t .placement) w)) (flow (t .whole) w)
 
 -- What the step promises, by the boxes and a member's share of the draw units: whatever a plan is given and the way to visit on, what is left to do is the
 -- turn from the step on.
 abbrev pub TriesMember : Fixed → PreparedReference → Placement → WorldBBox → WorldBBox → ℕ → ℕ → ℕ → Tried → RefT (List ℕ) → ScenePlan → RefT (List ℕ) → Type 0
 TriesMember f r p sourceBox worldBox units i depth t out plan outBefore =
     (g : Given f) (on : VisitSource g) (k m : List ℕ)
-    → leftOfMember g on r t (world (t .plan) (out .now) k m) ≡ member g on depth r p sourceBox worldBox units i (world plan (outBefore .now) k m)
+    → leftOfMember g on r worldBox t (world (t .plan) (out .now) k m) ≡ member g on depth r p sourceBox worldBox units i (world plan (outBefore .now) k m)

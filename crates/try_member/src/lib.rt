@@ -1,12 +1,14 @@
-// One member of a reference, up to the visit of its source.
+// One member of a reference: up to the visit of its source, and where a limit stopped that visit.
 use geometry::bbox::WorldBBox;
 use geometry::placement::Placement;
 use plan_rules::Fixed;
 use plan_rules::Reason;
 use plan_rules::ScenePlan;
+use records::NO_LABEL;
 use records::PreparedReference;
 ghost use Prim.Native.Nat.{_<_};
 ghost use Rattle.grid.specs.Grid.{gridCount};
+ghost use Rattle.plan_rules.specs.OnTape.{Leaves, loadMember};
 ghost use Rattle.try_member.specs.Left.{TriesMember};
 
 // The plan so far; whether the member's source is to be visited, with the member's placement and box; if not, whether the visit of the reference goes on.
@@ -71,4 +73,18 @@ pub fn try_member(
     }
     tried.opens = true;
     tried
+}
+
+// The member's box, and then the whole reference's, which has no label.
+pub fn load_member(
+    out: &mut [u8],
+    plan: ScenePlan,
+    label: u32,
+    bbox: WorldBBox,
+    world_bbox: WorldBBox,
+) -> ScenePlan
+    ensures { λ r. ⌜ Leaves r (out .exit) (loadMember label bbox «world_bbox») plan (out .entry) ⌝ }
+{
+    let boxed = events::add_load(out, plan, Reason::OtherLimit, label, bbox);
+    events::add_load(out, boxed, Reason::OtherLimit, NO_LABEL, world_bbox)
 }

@@ -4,72 +4,49 @@ use mathlib.Core.Path.{_≡_, refl, sym, ap, _∙_}
 use Prim.Native.Nat.{ℕ, zero, suc, _+_, _*_, _/_, _%_, _≤_, _<_}
 use native.Mathlib.Nat.{add-mul-div-right, add-mul-mod-self-right, div-eq-of-lt, mod-eq-of-lt, zero-mul}
 use native.Mathlib.Omega.{arith}
-use Rattle.plan_rules.specs.World.{World, Flow, go, halt, bind, each}
+use Rattle.plan_rules.specs.World.{World, Flow, bind, each}
+use Rattle.plan_rules.proofs.Paths.Loops.{after-bind, each-append}
 
-module _ {A : Type 0} where
-  after-bind : (x : Flow A) (f g : World A → Flow A) → ((v : World A) → f v ≡ g v) → bind x f ≡ bind x g
-  after-bind (go v) f g e = e v
-  after-bind (halt v) f g e = refl
+module _ {A : Type 0} (member : ℕ → ℕ → World A → Flow A) (rows : ℕ) where
+  -- member i
+  abbrev pub memberAt : ℕ → World A → Flow A
+  memberAt i = member (i / rows) (i % rows)
 
-  bind-bind : (x : Flow A) (f g : World A → Flow A) → bind (bind x f) g ≡ bind x (λ v. bind (f v) g)
-  bind-bind (go v) f g = refl
-  bind-bind (halt v) f g = refl
+  abbrev columnOf : ℕ → World A → Flow A
+  columnOf column = each (member column) rows 0
 
-  -- a loop in two parts
-  pub each-append : (f : ℕ → World A → Flow A) (a b i : ℕ) (w : World A) → each f (a + b) i w ≡ bind (each f a i w) (each f b (i + a))
+  stands : (column row : ℕ) → row < rows → (v : World A) → memberAt (row + column * rows) v ≡ member column row v
+  stands column row h v =
+      let some : 0 < rows = omega arith in
+      let c : (row + column * rows) / rows ≡ column = add-mul-div-right row column some ∙ ap (λ (k : ℕ). k + column) (div-eq-of-lt h) ∙ (omega arith) in
+      let r : (row + column * rows) % rows ≡ row = add-mul-mod-self-right row column rows ∙ mod-eq-of-lt h in
+      ap (λ (k : ℕ). member k ((row + column * rows) % rows) v) c ∙ ap (λ (k : ℕ). member column k v) r
+
+  -- what is left of a column
+  within-column : (column n row : ℕ) → row + n ≤ rows → (w : World A) → each memberAt n (row + column * rows) w ≡ each (member column) n row w
   unfolding each
-  each-append f zero b i w =
-      let none : 0 + b ≡ b = omega arith in
-      let here : i ≡ i + 0 = omega arith in
-      ap (λ (k : ℕ). each f k i w) none ∙ ap (λ (j : ℕ). each f b j w) here
-  each-append f (suc a) b i w =
-      let more : suc a + b ≡ suc (a + b) = omega arith in
-      let there : i + 1 + a ≡ i + suc a = omega arith in
-      ap (λ (k : ℕ). each f k i w) more
-      ∙ after-bind (f i w) (each f (a + b) (i + 1)) (λ v. bind (each f a (i + 1) v) (each f b (i + suc a)))
-      (λ v. each-append f a b (i + 1) v ∙ ap (λ (j : ℕ). bind (each f a (i + 1) v) (each f b j)) there)
-      ∙ sym (bind-bind (f i w) (each f a (i + 1)) (each f b (i + suc a)))
+  within-column column zero row h w = refl
+  within-column column (suc n) row h w =
+      let next : row + column * rows + 1 ≡ row + 1 + column * rows = omega arith in
+      ap (λ (x : Flow A). bind x (each memberAt n (row + column * rows + 1))) (stands column row (omega arith) w)
+      ∙ after-bind (member column row w) (each memberAt n (row + column * rows + 1)) (each (member column) n (row + 1))
+      (λ v. ap (λ (j : ℕ). each memberAt n j v) next ∙ within-column column n (row + 1) (omega arith) v)
 
-  module _ (member : ℕ → ℕ → World A → Flow A) (rows : ℕ) where
-    -- member i
-    abbrev pub memberAt : ℕ → World A → Flow A
-    memberAt i = member (i / rows) (i % rows)
+  columns-from : (n column : ℕ) (w : World A) → each memberAt (n * rows) (column * rows) w ≡ each columnOf n column w
+  unfolding each
+  columns-from zero column w = ap (λ (k : ℕ). each memberAt k (column * rows) w) (zero-mul rows)
+  columns-from (suc n) column w =
+      let more : suc n * rows ≡ rows + n * rows = omega arith in
+      let first : column * rows ≡ 0 + column * rows = omega arith in
+      let next : column * rows + rows ≡ (column + 1) * rows = omega arith in
+      ap (λ (k : ℕ). each memberAt k (column * rows) w) more
+      ∙ each-append memberAt rows (n * rows) (column * rows) w
+      ∙ ap (λ (x : Flow A). bind x (each memberAt (n * rows) (column * rows + rows)))
+      (ap (λ (j : ℕ). each memberAt rows j w) first ∙ within-column column rows 0 (omega arith) w)
+      ∙ after-bind (columnOf column w) (each memberAt (n * rows) (column * rows + rows)) (each columnOf n (column + 1))
+      (λ v. ap (λ (j : ℕ). each memberAt (n * rows) j v) next ∙ columns-from n (column + 1) v)
 
-    abbrev columnOf : ℕ → World A → Flow A
-    columnOf column = each (member column) rows 0
-
-    stands : (column row : ℕ) → row < rows → (v : World A) → memberAt (row + column * rows) v ≡ member column row v
-    stands column row h v =
-        let some : 0 < rows = omega arith in
-        let c : (row + column * rows) / rows ≡ column = add-mul-div-right row column some ∙ ap (λ (k : ℕ). k + column) (div-eq-of-lt h) ∙ (omega arith) in
-        let r : (row + column * rows) % rows ≡ row = add-mul-mod-self-right row column rows ∙ mod-eq-of-lt h in
-        ap (λ (k : ℕ). member k ((row + column * rows) % rows) v) c ∙ ap (λ (k : ℕ). member column k v) r
-
-    -- what is left of a column
-    within-column : (column n row : ℕ) → row + n ≤ rows → (w : World A) → each memberAt n (row + column * rows) w ≡ each (member column) n row w
-    unfolding each
-    within-column column zero row h w = refl
-    within-column column (suc n) row h w =
-        let next : row + column * rows + 1 ≡ row + 1 + column * rows = omega arith in
-        ap (λ (x : Flow A). bind x (each memberAt n (row + column * rows + 1))) (stands column row (omega arith) w)
-        ∙ after-bind (member column row w) (each memberAt n (row + column * rows + 1)) (each (member column) n (row + 1))
-        (λ v. ap (λ (j : ℕ). each memberAt n j v) next ∙ within-column column n (row + 1) (omega arith) v)
-
-    columns-from : (n column : ℕ) (w : World A) → each memberAt (n * rows) (column * rows) w ≡ each columnOf n column w
-    unfolding each
-    columns-from zero column w = ap (λ (k : ℕ). each memberAt k (column * rows) w) (zero-mul rows)
-    columns-from (suc n) column w =
-        let more : suc n * rows ≡ rows + n * rows = omega arith in
-        let first : column * rows ≡ 0 + column * rows = omega arith in
-        let next : column * rows + rows ≡ (column + 1) * rows = omega arith in
-        ap (λ (k : ℕ). each memberAt k (column * rows) w) more
-        ∙ each-append memberAt rows (n * rows) (column * rows) w
-        ∙ ap (λ (x : Flow A). bind x (each memberAt (n * rows) (column * rows + rows)))
-        (ap (λ (j : ℕ). each memberAt rows j w) first ∙ within-column column rows 0 (omega arith) w)
-        ∙ after-bind (columnOf column w) (each memberAt (n * rows) (column * rows + rows)) (each columnOf n (column + 1))
-        (λ v. ap (λ (j : ℕ). each memberAt (n * rows) j v) next ∙ columns-from n (column + 1) v)
-
-    -- THE MEMBERS IN ONE LOOP
-    pub members-in-one-loop : (columns : ℕ) (w : World A) → each columnOf columns 0 w ≡ each memberAt (columns * rows) 0 w
-    members-in-one-loop columns w =
-        sym (columns-from columns 0 w) ∙ ap (λ (j : ℕ). each memberAt (columns * rows) j w) (zero-mul rows)
+  -- THE MEMBERS IN ONE LOOP
+  pub members-in-one-loop : (columns : ℕ) (w : World A) → each columnOf columns 0 w ≡ each memberAt (columns * rows) 0 w
+  members-in-one-loop columns w =
+      sym (columns-from columns 0 w) ∙ ap (λ (j : ℕ). each memberAt (columns * rows) j w) (zero-mul rows)

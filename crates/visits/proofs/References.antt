@@ -25,15 +25,11 @@ use Rattle.look_up.specs.Look.{look}
 use Rattle.look_up.proofs.Looking.{item-looked}
 use Rattle.plan_rules.specs.declared.Fixed.{Fixed}
 use Rattle.plan_rules.specs.declared.Reason.{Reason}
-use Rattle.plan_rules.specs.declared.Reason.the-variants.{OtherLimit}
-use Rattle.plan_rules.specs.Event.{nodeGridLimit, after, _⊞_}
 use Rattle.plan_rules.specs.World.{world, Flow, go, halt, flow, ending, each}
 use Rattle.plan_rules.specs.DrawUnits.{Units, counted}
-use Rattle.plan_rules.specs.Push as push
 use Rattle.plan_rules.specs.Visit as rules
 use Rattle.plan_rules.specs.Visit.{collapseReason, sourceUnits}
-use Rattle.plan_rules.specs.Tape.{onTape, putRecord}
-use Rattle.plan_rules.specs.OnTape.{Given, givenBytes, Output, say, addLoad, haltWithMember, memberStep, columnStep, visitCountedReference, visitSourcedReference, visitFoundReference, onSource, onSourceBelow, visitReference}
+use Rattle.plan_rules.specs.OnTape.{Given, givenBytes, Output, addLoad, loadMember, haltWithMember, memberStep, columnStep, visitCountedReference, visitSourcedReference, visitFoundReference, onSource, onSourceBelow, visitReference}
 use Rattle.plan_rules.proofs.Paths.References as Paths
 use Rattle.visits.proofs.Members.{memberAt, members-in-one-loop}
 
@@ -48,12 +44,7 @@ module _ (goes : Bool) (rest w whole : Output) (opened : cond goes rest w ≡ wh
 
 -- ---- the answers of `try_member`, and of the visit of its source where it opens
 
--- the event of a grid of bare node points that meets a limit is not written, and counts nothing
-node-grid-limit-silent : (w : Output) → say nodeGridLimit w ≡ w
-unfolding push.say after _⊞_ onTape putRecord
-node-grid-limit-silent w = refl
-
-module _ (opens whole : Bool) (l : ℕ) (box : WorldBBox) (w : Output) (visited turn : Flow (List ℕ)) (tried : cond opens (haltWithMember l box visited) (flow whole w) ≡ turn) where
+module _ (opens whole : Bool) (l : ℕ) (box worldBox : WorldBBox) (w : Output) (visited turn : Flow (List ℕ)) (tried : cond opens (haltWithMember l box worldBox visited) (flow whole w) ≡ turn) where
   pub member-passed : opens ≡ false → whole ≡ true → (v : Output) → v ≡ w → turn ≡ go v
   member-passed h g v e = sym (rw (h, g) at tried) ∙ ap go (sym e)
 
@@ -64,10 +55,10 @@ module _ (opens whole : Bool) (l : ℕ) (box : WorldBBox) (w : Output) (visited 
     pub source-passed : source-whole ≡ true → (v : Output) → v ≡ u → turn ≡ go v
     source-passed g v e = sym (rw (opened, ← done, g) at tried) ∙ ap go (sym e)
 
-    pub source-halted : source-whole ≡ false → (n : ℕ) → n ≡ l → (v : Output) → v ≡ addLoad OtherLimit n box u → turn ≡ halt v
+    pub source-halted : source-whole ≡ false → (n : ℕ) → n ≡ l → (v : Output) → v ≡ loadMember n box worldBox u → turn ≡ halt v
     source-halted g n e v boxed =
         sym (rw (opened, ← done, g) at tried)
-        ∙ ap halt (node-grid-limit-silent (addLoad OtherLimit l box u) ∙ ap (λ (n : ℕ). addLoad OtherLimit n box u) (sym e) ∙ sym boxed)
+        ∙ ap halt (ap (λ (n : ℕ). loadMember n box worldBox u) (sym e) ∙ sym boxed)
 
 -- ---- the look-up in a sheet's bytes
 

@@ -3,7 +3,6 @@
 // Each is total. What it leaves of the plan, the output and the scratch is what the rules' definition of the same name says.
 use geometry::placement::Placement;
 use plan_rules::Fixed;
-use plan_rules::Reason;
 use plan_rules::ScenePlan;
 use pushes::Visited;
 use records::PreparedSource;
@@ -160,7 +159,7 @@ fn visit_reference(
             );
             next = visited.plan;
             if !visited.whole {
-                return events::add_load(out, next, Reason::OtherLimit, label, tried.bbox);
+                return try_member::load_member(out, next, label, tried.bbox, world_bbox);
             }
         } else if !tried.whole {
             return next;

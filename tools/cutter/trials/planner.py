@@ -128,7 +128,7 @@ def try_zoom(plan):
 
 def blocks_behind(page, sample):
     """The page's indented blocks behind the command that plans a sample, in order."""
-    behind = page.split("    tools/cut.py samples/%s | target/bin/plan\n" % sample, 1)[1]
+    behind = page.split("    tools/cut.py samples/%s | target/bin/plan" % sample, 1)[1].split("\n", 1)[1]
     groups = itertools.groupby(behind.splitlines(keepends=True), lambda line: line.startswith("    "))
     return ["".join(lines) for indented, lines in groups if indented]
 
@@ -151,9 +151,26 @@ def try_sites(plan):
         same("totals at zoom " + zoom, lines[-1], totals)
 
 
+def try_nodes(plan):
+    """The grid of nodes that runs out: the end of its plan as the page shows it, and the same where the limit falls in the last
+    member, the 6,667th; at the end of the grid there is no box, and at a member's end the whole reference's alone."""
+    sample = file_text("samples", "nodes.txt")
+    lines = printed(plan, sample).splitlines(keepends=True)
+    same("points of nodes.txt", sum(line.startswith("point 20 1 ") for line in lines), 20000)
+    same("nodes.txt, the end in docs/SHEETS.md", "".join("    " + line for line in lines[20000:]),
+         blocks_behind(file_text("docs", "SHEETS.md"), "nodes.txt")[0])
+    wide = sample.replace("3600,3000", "4000,5000")
+    even = wide.replace("0,0;30,0;0,30", "0,0;30,0;0,30;30,30")
+    for what, description, members, proxies in (("in the last member", wide, "columns=59 rows=113", 2), ("at the end", even, "columns=50 rows=100", 0),
+                                                ("at a member's end", even, "columns=51 rows=100", 1)):
+        lines = printed(plan, description.replace("columns=90 rows=75", members)).splitlines()
+        same("a limit " + what, [line.split()[:2] for line in lines[20000:]], [["proxy", "none"]] * proxies + [["totals", "1"]])
+
+
 def run(plan):
     try_boxes(plan, 100)
     try_facts(plan)
     try_zoom(plan)
     try_page(plan)
     try_sites(plan)
+    try_nodes(plan)

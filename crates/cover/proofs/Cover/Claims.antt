@@ -2,7 +2,7 @@
 -- Assumes nothing.
 use mathlib.Core.Path.{_≡_, sym, subst}
 use mathlib.Core.Bool.{not}
-use mathlib.Core.List.{List, [], _∷_}
+use mathlib.Core.List.{List, []}
 use Prim.Native.Nat.{ℕ}
 use lib.Dec.{ltb}
 use lib.Dec.{T as Yes}
@@ -15,7 +15,7 @@ use Rattle.exact.proofs.Boxes.Tests.{overlaps-exact}
 use Rattle.plan_rules.specs.declared.ScenePlan.{ScenePlan}
 use Rattle.plan_rules.specs.Limits.{maxLoadProxies}
 use Rattle.plan_rules.specs.declared.Reason.{Reason}
-use Rattle.plan_rules.specs.Event.{Event, proxy, droppedProxy, nodeGridLimit, Step, member, after}
+use Rattle.plan_rules.specs.Event.{Event, proxy, droppedProxy, Step, after}
 use Rattle.plan_rules.specs.World.{World}
 use Rattle.plan_rules.specs.Push.{say, addLoad, addLoadIfBoxed}
 use Rattle.plan_rules.specs.Tape.{note}
@@ -23,7 +23,7 @@ use Rattle.plan_rules.proofs.Simulation.Premises.{Room}
 use Rattle.cover.specs.Path.{Path, Item, aBatch, aText, aPoint}
 use Rattle.cover.specs.View.{placedBatch, textPosition, pointPosition, WithinBox, WholeView, InView}
 use Rattle.cover.specs.Trace.{enter, Any, here, before}
-use Rattle.cover.specs.Covered.{Lists, IsSkip, Later}
+use Rattle.cover.specs.Covered.{Lists, IsSkip}
 use Rattle.cover.proofs.Tests.{cond-case, not-not}
 use Rattle.cover.proofs.TagPaths.{Tagged, back}
 use Rattle.cover.proofs.Enclosure.{HasElements}
@@ -52,7 +52,6 @@ pub data Claims (p : Path) (h : Item) : List Step → Event → Type 0 where
   by-proxy : {t : List Step} {y : Reason} {l : ℕ} {b : WorldBBox} {z : IntegerBox} → IsBox b z → WithinBox h z → Claims p h t (proxy y l b)
   by-dropped : {t : List Step} {y : Reason} {l : ℕ} {b : WorldBBox} {z : IntegerBox} → IsBox b z → WithinBox h z → Claims p h t (droppedProxy y l b)
   by-skip : {t : List Step} {e : Event} (r : Path) → back t r ≡ p → IsSkip e → Claims p h t e
-  by-limit : {t : List Step} {a b : ℕ} (x y : ℕ) (r : Path) → back t (member x y ∷ r) ≡ p → Later a b x y → Claims p h (member a b ∷ t) nodeGridLimit
 
 abbrev pub Claimed : Path → Item → World Tagged → Type 0
 Claimed p h w = Any (λ (x : List Step × Event). Claims p h (x .0) (x .1)) (w .out)

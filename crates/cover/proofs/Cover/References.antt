@@ -1,8 +1,7 @@
 -- A reference, seen from the member that a path goes through. Before the members: culled it cannot be, and at a limit or a collapse the reference's box is added, which holds every member.
--- Among the members: an earlier one that stops the loop adds the reference's box, or is where a grid of bare node points met a limit; the member itself is skipped, boxed or visited.
+-- Among the members: one that stops the loop adds the reference's box too; the member itself is skipped, boxed or visited.
 -- Assumes nothing.
 use mathlib.Core.Path.{_≡_, refl, sym, subst}
-use mathlib.Core.Logic.{inl, inr}
 use mathlib.Core.Bool.{false, not}
 use mathlib.Core.List.{List, _∷_}
 use mathlib.Core.Option.{Option, some}
@@ -24,10 +23,10 @@ use Rattle.exact.specs.Box.{IntegerBox, IsBox, boxOf, place, referenceBox}
 use Rattle.exact.proofs.Boxes.ReferenceRounded.{reference-bbox-present}
 use Rattle.plan_rules.specs.declared.Reason.{Reason}
 use Rattle.plan_rules.specs.declared.Reason.the-variants as reason
-use Rattle.plan_rules.specs.Event.{skippedMember, nodeGridLimit, Step, member}
+use Rattle.plan_rules.specs.Event.{skippedMember, Step, member}
 use Rattle.plan_rules.specs.World.{Query, detailCellsFull, detailBudgetExhausted, World, Flow, go, halt, ending, each}
 use Rattle.plan_rules.specs.DrawUnits.{referenceDrawUnits}
-use Rattle.plan_rules.specs.Push.{say, addLoad}
+use Rattle.plan_rules.specs.Push.{addLoad}
 use Rattle.plan_rules.specs.Visit.{sourceUnits, haltWithMember, withScratch, VisitSource, memberStep, columnStep, visitCountedReference, visitBoxedReference, visitSourcedReference, visitFoundReference}
 use Rattle.plan_rules.specs.Tape.{note}
 use Rattle.paths.specs.Square.{Square, FewMembers, SquareBox}
@@ -35,14 +34,14 @@ use Rattle.paths.specs.TrueBoxes.{TrueBoxes}
 use Rattle.paths.proofs.Square.{bounds-square, reference-grid}
 use Rattle.cover.specs.Path.{Path, Item, memberAt}
 use Rattle.cover.specs.View.{WithinBox, WholeView, InView}
-use Rattle.cover.specs.Trace.{enter, before}
-use Rattle.cover.specs.Covered.{Later, member-skip}
+use Rattle.cover.specs.Trace.{enter}
+use Rattle.cover.specs.Covered.{member-skip}
 use Rattle.cover.proofs.Tests.{cond-case, collapses-at-depth-1}
 use Rattle.cover.proofs.TagPaths.{Tagged, back}
 use Rattle.cover.proofs.Exactness.{placed-box, member-placed, corners-placed}
 use Rattle.cover.proofs.Enclosure.{within-larger, member-in-reference-box}
 use Rattle.cover.proofs.Loops.{OnGo, OnHalt, Keeps, each-halts, each-covers}
-use Rattle.cover.proofs.Cover.Claims.{view-touches, not-culled, by-skip, by-limit, Claimed, say-claims, load-claims}
+use Rattle.cover.proofs.Cover.Claims.{view-touches, not-culled, by-skip, Claimed, say-claims, load-claims}
 
 module _ (S : Sheet) (cells : ℕ) (q : Query) (whole : WholeView (q .view)) (few : FewMembers S) (sq : Square S) (true-boxes : TrueBoxes S)
     (d l : ℕ) (l≤ : l ≤ deepestLevel) (t : List Step) (n : ℕ) (r : PreparedReference) (e : S .reference n ≡ some r) (p : Placement) (T : ExactPlacement) (i : IsPlacement p T) (level : AtLevel l T)
@@ -68,8 +67,8 @@ module _ (S : Sheet) (cells : ℕ) (q : Query) (whole : WholeView (q .view)) (fe
   inside-world-box : WithinBox h exactWorldBox
   inside-world-box = within-larger h (place (memberAt T r x y) (boxOf sb)) exactWorldBox (member-in-reference-box S few sq true-boxes n r sb x y T e eb x< y<) inside
 
-  full-reference : (y : Reason) (w : World Tagged) → Claimed g h (addLoad enter note t y (label (r .source)) worldBox w)
-  full-reference y = load-claims g h t y (label (r .source)) worldBox exactWorldBox world-box-is inside-world-box
+  full-reference : (y : Reason) (k : ℕ) (w : World Tagged) → Claimed g h (addLoad enter note t y k worldBox w)
+  full-reference y k = load-claims g h t y k worldBox exactWorldBox world-box-is inside-world-box
 
   -- ---- up to the members
 
@@ -85,9 +84,9 @@ module _ (S : Sheet) (cells : ℕ) (q : Query) (whole : WholeView (q .view)) (fe
       (subst (λ (o : Bounds). Claimed g h (visitBoxedReference enter note S cells q visit d t r p sb o w)) (sym (reference-bbox-present (r .grid) sb (omega arith) (omega arith)))
       (cond-case (Claimed g h) (not (overlaps worldBox (q .view))) _ _
       (λ k. absurd (not-culled (q .view) whole worldBox exactWorldBox world-box-is (view-touches (q .view) h exactWorldBox v inside-world-box) k))
-      (λ _. cond-case (Claimed g h) (detailCellsFull (w .state)) _ _ (λ _. full-reference _ w)
-      (λ _. cond-case (Claimed g h) (detailBudgetExhausted q (w .state)) _ _ (λ _. full-reference _ w)
-      (λ _. cond-case (Claimed g h) (collapses (collapseTest (z .width) (z .height) (gridCount (r .grid)) (u .units) d false)) _ _ (λ _. full-reference _ (withScratch enter note u w))
+      (λ _. cond-case (Claimed g h) (detailCellsFull (w .state)) _ _ (λ _. full-reference _ _ w)
+      (λ _. cond-case (Claimed g h) (detailBudgetExhausted q (w .state)) _ _ (λ _. full-reference _ _ w)
+      (λ _. cond-case (Claimed g h) (collapses (collapseTest (z .width) (z .height) (gridCount (r .grid)) (u .units) d false)) _ _ (λ _. full-reference _ _ (withScratch enter note u w))
       (λ k. loop (collapses-at-depth-1 (z .width) (z .height) (gridCount (r .grid)) (u .units) d k) (sourceUnits (u .units) (gridCount (r .grid))) (withScratch enter note u w))))))))
 
   -- ---- the member itself
@@ -107,10 +106,10 @@ module _ (S : Sheet) (cells : ℕ) (q : Query) (whole : WholeView (q .view)) (fe
     abbrev EndsWell : Flow Tagged → Type 0
     EndsWell f = Claimed g h (ending f)
 
-    limit-claims : (k : ℕ) (f : Flow Tagged) → OnGo (Claimed g h) f → EndsWell (haltWithMember enter note (member x y ∷ t) k memberBox f)
-    unfolding say
+    -- where a limit stopped the visit of its source, the reference's box was added last
+    limit-claims : (k : ℕ) (f : Flow Tagged) → OnGo (Claimed g h) f → EndsWell (haltWithMember enter note t (member x y ∷ t) k memberBox worldBox f)
     limit-claims k (go w) o = o
-    limit-claims k (halt w) o = before (load-claims g h (member x y ∷ t) reason.OtherLimit k memberBox (place (memberAt T r x y) (boxOf sb)) member-box-is inside w)
+    limit-claims k (halt w) o = full-reference _ _ (addLoad enter note (member x y ∷ t) reason.OtherLimit k memberBox w)
 
     member-claims : ((w : World Tagged) → OnGo (Claimed g h) (visit (member x y ∷ t) (r .source) placement w)) → (u : ℕ) (w : World Tagged) → EndsWell (memberStep enter note S cells q visit d t r p sb worldBox u x y w)
     unfolding memberStep
@@ -118,7 +117,7 @@ module _ (S : Sheet) (cells : ℕ) (q : Query) (whole : WholeView (q .view)) (fe
         let z = place (memberAt T r x y) (boxOf sb) in
         let size = referenceScreenSize memberBox (q .zoom) (sourceIsDegenerate sb) in
         let stands = member x y ∷ t in
-        cond-case EndsWell (detailBudgetExhausted q (w .state)) _ _ (λ _. full-reference _ w)
+        cond-case EndsWell (detailBudgetExhausted q (w .state)) _ _ (λ _. full-reference _ _ w)
         (λ _. cond-case EndsWell (not (overlaps memberBox (q .view))) _ _
         (λ k. absurd (not-culled (q .view) whole memberBox z member-box-is (view-touches (q .view) h z v inside) k))
         (λ _. cond-case EndsWell (isSubpixel size) _ _
@@ -129,21 +128,21 @@ module _ (S : Sheet) (cells : ℕ) (q : Query) (whole : WholeView (q .view)) (fe
 
     -- ---- an earlier member that halts
 
-    limit-halts : (a b : ℕ) → Later a b x y → (k : ℕ) (o : WorldBBox) (f : Flow Tagged) → OnHalt (Claimed g h) (haltWithMember enter note (member a b ∷ t) k o f)
-    limit-halts a b late k o (go w) = tt
-    limit-halts a b late k o (halt w) = say-claims g h (member a b ∷ t) nodeGridLimit (by-limit x y rest refl late) (addLoad enter note (member a b ∷ t) reason.OtherLimit k o w)
+    limit-halts : (here : List Step) (k : ℕ) (o : WorldBBox) (f : Flow Tagged) → OnHalt (Claimed g h) (haltWithMember enter note t here k o worldBox f)
+    limit-halts here k o (go w) = tt
+    limit-halts here k o (halt w) = full-reference _ _ (addLoad enter note here reason.OtherLimit k o w)
 
-    member-halts : (u a b : ℕ) → Later a b x y → (w : World Tagged) → OnHalt (Claimed g h) (memberStep enter note S cells q visit d t r p sb worldBox u a b w)
+    member-halts : (u a b : ℕ) (w : World Tagged) → OnHalt (Claimed g h) (memberStep enter note S cells q visit d t r p sb worldBox u a b w)
     unfolding memberStep
-    member-halts u a b late w =
+    member-halts u a b w =
         let m = p · gridMemberTransform (r .grid) a b in
         let box = transformBbox m sb in
         let size = referenceScreenSize box (q .zoom) (sourceIsDegenerate sb) in
-        cond-case (OnHalt (Claimed g h)) (detailBudgetExhausted q (w .state)) _ _ (λ _. full-reference _ w)
+        cond-case (OnHalt (Claimed g h)) (detailBudgetExhausted q (w .state)) _ _ (λ _. full-reference _ _ w)
         (λ _. cond-case (OnHalt (Claimed g h)) (not (overlaps box (q .view))) _ _ (λ _. tt)
         (λ _. cond-case (OnHalt (Claimed g h)) (isSubpixel size) _ _ (λ _. tt)
         (λ _. cond-case (OnHalt (Claimed g h)) (collapses (collapseTest (size .width) (size .height) 1 u d false)) _ _ (λ _. tt)
-        (λ _. limit-halts a b late (label (r .source)) box (visit (member a b ∷ t) (r .source) m w)))))
+        (λ _. limit-halts (member a b ∷ t) (label (r .source)) box (visit (member a b ∷ t) (r .source) m w)))))
 
     -- ---- the columns, and the rows of the member's own column
 
@@ -154,6 +153,6 @@ module _ (S : Sheet) (cells : ℕ) (q : Query) (whole : WholeView (q .view)) (fe
     unfolding columnStep
     columns-claim sub columns-keep members-keep u w =
         each-covers (Claimed g h) (columnStep enter note S cells q visit d t r p sb worldBox u) (r .grid .columns) x x< (columns-keep u)
-        (λ a a< w. each-halts (Claimed g h) (memberStep enter note S cells q visit d t r p sb worldBox u a) (λ b. member-halts u a b (inl a<)) (r .grid .rows) 0 w)
-        (each-covers (Claimed g h) (memberStep enter note S cells q visit d t r p sb worldBox u x) (r .grid .rows) y y< (members-keep u x x<) (λ b b< w. member-halts u x b (inr (refl, b<)) w) (member-claims sub u) (r .grid .rows) 0 (omega arith) (omega arith))
+        (λ a a< w. each-halts (Claimed g h) (memberStep enter note S cells q visit d t r p sb worldBox u a) (member-halts u a) (r .grid .rows) 0 w)
+        (each-covers (Claimed g h) (memberStep enter note S cells q visit d t r p sb worldBox u x) (r .grid .rows) y y< (members-keep u x x<) (λ b b< w. member-halts u x b w) (member-claims sub u) (r .grid .rows) 0 (omega arith) (omega arith))
         (r .grid .columns) 0 (omega arith) (omega arith) w

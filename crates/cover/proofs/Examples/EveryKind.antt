@@ -22,7 +22,7 @@ use Rattle.abstract_sheet.specs.Sheet.{sheetOf}
 use Rattle.exact.specs.Screen.{zoomPower, ZoomWithin}
 use Rattle.plan_rules.specs.Limits.{maxSceneObjects}
 use Rattle.plan_rules.specs.declared.Reason.the-variants as reason
-use Rattle.plan_rules.specs.Event.{batch, text, point, proxy, nodeGridLimit, detailCell, batchAt, textAt, nodeAt, referenceAt, member, pointAt}
+use Rattle.plan_rules.specs.Event.{batch, text, point, proxy, detailCell, batchAt, textAt, nodeAt, referenceAt, member, pointAt}
 use Rattle.plan_rules.specs.World.{Query}
 use Rattle.records.specs.Sources.{noLabel}
 use Rattle.plan_rules.specs.Outcome.{Outcome, outcomeOf}
@@ -167,10 +167,10 @@ pub whole-plan : withoutTotals (eventsOf everyKind (query maxSceneObjects))
 unfolding everyKind opened openedSheet
 whole-plan = refl
 
--- with 14 objects the node grid meets the limit at its second member, which is boxed; then the loop over the cell's references stops, and the cell is boxed
+-- with 14 objects the node grid meets the limit at its second member, which is boxed, and then the whole reference; the loop over the cell's references stops, and the cell is boxed
 pub limited-plan : withoutTotals (eventsOf everyKind (query 14))
     ≡ ([], proxy reason.OtherLimit 0 outerBox)
-    ∷ (referenceAt 2 ∷ member 0 1 ∷ [], nodeGridLimit) ∷ (referenceAt 2 ∷ member 0 1 ∷ [], proxy reason.OtherLimit noLabel (bbox (minus 130) (minus 50) (minus 100) (minus 20)))
+    ∷ (referenceAt 2 ∷ [], proxy reason.OtherLimit noLabel (bbox (minus 130) (minus 90) (minus 100) (whole 20))) ∷ (referenceAt 2 ∷ member 0 1 ∷ [], proxy reason.OtherLimit noLabel (bbox (minus 130) (minus 50) (minus 100) (minus 20)))
     ∷ (referenceAt 2 ∷ member 0 1 ∷ pointAt 0 ∷ [], point 1 2 (at (minus 130) (minus 50)))
     ∷ (referenceAt 2 ∷ member 0 0 ∷ pointAt 1 ∷ [], point 1 2 (at (minus 100) (minus 60))) ∷ (referenceAt 2 ∷ member 0 0 ∷ pointAt 0 ∷ [], point 1 2 (at (minus 130) (minus 90)))
     ∷ (referenceAt 1 ∷ member 0 0 ∷ member 0 0 ∷ [], text 0 (at (minus 70) (whole 60)))

@@ -17,10 +17,10 @@ use Rattle.screen.specs.Screen.{referenceScreenSize, isSubpixel, collapseTest, 
 use Rattle.records.specs.declared.PreparedSource.{PreparedSource}
 use Rattle.records.specs.declared.PreparedSource.the-variants.{Geometry, Text, Node, Reference, Cell}
 use Rattle.records.specs.declared.PreparedReference.{PreparedReference}
-use Rattle.records.specs.Sources.{label}
+use Rattle.records.specs.Sources.{noLabel, label}
 use Rattle.abstract_sheet.specs.Sheet.{CellRecord, Sheet}
 use Rattle.plan_rules.specs.declared.Reason.the-variants as reason
-use Rattle.plan_rules.specs.Event.{Event, skippedMember, culledReference, nodeGridLimit, detailCell, totals, Step, batchAt, textAt, nodeAt, referenceAt, member, pointAt, emptyPlan}
+use Rattle.plan_rules.specs.Event.{Event, skippedMember, culledReference, detailCell, totals, Step, batchAt, textAt, nodeAt, referenceAt, member, pointAt, emptyPlan}
 use Rattle.plan_rules.specs.World.{Query, detailCellsFull, detailBudgetExhausted, World, world, Flow, go, halt, bind, ending, each, setMark}
 use Rattle.plan_rules.specs.Scratch.{openPlace, isMarked}
 use Rattle.plan_rules.specs.DrawUnits.{Units, referenceDrawUnits}
@@ -139,11 +139,11 @@ module _ (S : Sheet) (cells : ℕ) (q : Query) where
   -- ---- a reference
 
   module _ (visit : VisitSource enter note S cells q) (hv : Sources visit) (d : ℕ) (t : List Step) (r : PreparedReference) (p : Placement) (sb wb : WorldBBox) where
-    halt-with-member-adds : (K : List Step → Type 0) (l : Tagged) (k : List Step) (n : ℕ) (b : WorldBBox) (f : Flow Tagged) → Adds K l ((ending f) .out) → Adds K l ((ending (haltWithMember enter note k n b f)) .out)
-    unfolding say
+    halt-with-member-adds : (K : List Step → Type 0) (l : Tagged) (k : List Step) (n : ℕ) (b : WorldBBox) (f : Flow Tagged) → Adds K l ((ending f) .out) → Adds K l ((ending (haltWithMember enter note t k n b wb f)) .out)
     halt-with-member-adds K l k n b (go v) h = h
     halt-with-member-adds K l k n b (halt v) h =
-        quiet-after K l ((addLoad enter note k reason.OtherLimit n b v) .out) _ (quiet-after K l (v .out) _ h (load-adds Nowhere k reason.OtherLimit n b v)) (adds-quiet Nowhere ((addLoad enter note k reason.OtherLimit n b v) .out) k nodeGridLimit refl)
+        let boxed = addLoad enter note k reason.OtherLimit n b v in
+        quiet-after K l (boxed .out) _ (quiet-after K l (v .out) _ h (load-adds Nowhere k reason.OtherLimit n b v)) (load-adds Nowhere t reason.OtherLimit noLabel wb boxed)
 
     member-adds : (u x y : ℕ) → AddsFlow (Under (member x y ∷ t)) (memberStep enter note S cells q visit d t r p sb wb u x y)
     unfolding memberStep say

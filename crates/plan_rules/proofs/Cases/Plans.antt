@@ -12,9 +12,10 @@ use Rattle.records.specs.declared.PreparedSource.the-variants.{Text, Node, Refe
 use Rattle.records.specs.Sources.{noLabel}
 use Rattle.abstract_sheet.specs.Sheet.{Sheet}
 use Rattle.plan_rules.specs.declared.Reason.the-variants as reason
-use Rattle.plan_rules.specs.Event.{Event, batch, text, point, proxy, culledReference, nodeGridLimit, detailCell, scenePlan}
-use Rattle.plan_rules.specs.World.{Query}
+use Rattle.plan_rules.specs.Event.{Event, batch, text, point, proxy, droppedProxy, culledReference, detailCell, scenePlan}
+use Rattle.plan_rules.specs.World.{Query, world}
 use Rattle.plan_rules.specs.DrawUnits.{Units, numberedDrawUnits}
+use Rattle.plan_rules.specs.Visit.{visitReference}
 use Rattle.plan_rules.specs.Tape.{noTag, note}
 use Rattle.plan_rules.specs.Outcome.{freshPlan}
 use Rattle.plan_rules.proofs.Cases.Opened.{opened}
@@ -109,16 +110,47 @@ pub member-boxes : events small 2 (plain 2 20000) ≡ detailCell ∷ proxy reaso
 unfolding opened
 member-boxes = refl
 
--- ---- a grid of bare node points: the member at which the limit is met is boxed and marked, and later members are not visited
+-- ---- a grid of bare node points: the member at which the limit is met is boxed, then the whole reference without a label, and later members are not visited
 
 abbrev nodeGrid : Sheet
 nodeGrid =
     sheetOfLists [] [] (nodeOf (spot 0 0 ∷ spot 30 30 ∷ []) ∷ []) (refer 1 3 0 30 (Node 0) (page 30 30) ∷ []) (cellOf 0 (page 30 90) [] [] [] (0 ∷ []) ∷ [])
 
-pub node-grid : events nodeGrid 1 (plain 2 3)
-    ≡ detailCell ∷ point 1 2 (spot 0 0) ∷ point 1 2 (spot 30 30) ∷ point 1 2 (spot 0 30) ∷ proxy reason.OtherLimit noLabel (bbox (whole 0) (whole 30) (whole 30) (whole 60)) ∷ nodeGridLimit ∷ []
+abbrev wholeGrid : Event
+wholeGrid = proxy reason.OtherLimit noLabel (page 30 90)
+
+pub limit-in-first-member : events nodeGrid 1 (plain 2 1) ≡ detailCell ∷ point 1 2 (spot 0 0) ∷ proxy reason.OtherLimit noLabel (page 30 30) ∷ wholeGrid ∷ []
 unfolding opened
-node-grid = refl
+limit-in-first-member = refl
+
+pub limit-in-middle-member : events nodeGrid 1 (plain 2 3)
+    ≡ detailCell ∷ point 1 2 (spot 0 0) ∷ point 1 2 (spot 30 30) ∷ point 1 2 (spot 0 30) ∷ proxy reason.OtherLimit noLabel (bbox (whole 0) (whole 30) (whole 30) (whole 60)) ∷ wholeGrid ∷ []
+unfolding opened
+limit-in-middle-member = refl
+
+pub limit-in-last-member : events nodeGrid 1 (plain 2 5)
+    ≡ detailCell ∷ point 1 2 (spot 0 0) ∷ point 1 2 (spot 30 30) ∷ point 1 2 (spot 0 30) ∷ point 1 2 (spot 30 60) ∷ point 1 2 (spot 0 60) ∷ proxy reason.OtherLimit noLabel (bbox (whole 0) (whole 60) (whole 30) (whole 90)) ∷ wholeGrid ∷ []
+unfolding opened
+limit-in-last-member = refl
+
+-- the limit met at a member's end: the next member finds it, and the whole reference is boxed alone
+pub limit-before-a-member : events nodeGrid 1 (plain 2 2) ≡ detailCell ∷ point 1 2 (spot 0 0) ∷ point 1 2 (spot 30 30) ∷ wholeGrid ∷ []
+unfolding opened
+limit-before-a-member = refl
+
+-- the only member: the same box twice
+abbrev oneNode : Sheet
+oneNode = sheetOfLists [] [] (nodeOf (spot 0 0 ∷ spot 30 30 ∷ []) ∷ []) (refer 1 1 0 0 (Node 0) (page 30 30) ∷ []) (cellOf 0 (page 30 30) [] [] [] (0 ∷ []) ∷ [])
+
+pub limit-in-only-member : events oneNode 1 (plain 2 1) ≡ detailCell ∷ point 1 2 (spot 0 0) ∷ proxy reason.OtherLimit noLabel (page 30 30) ∷ proxy reason.OtherLimit noLabel (page 30 30) ∷ []
+unfolding opened
+limit-in-only-member = refl
+
+-- with 99,999 proxies listed before, the member's box is the last that is listed, and the whole reference's is dropped
+pub reference-box-dropped : (visitReference noTag note nodeGrid 1 (plain 2 1) 2 tt 0 IDENTITY (world (scenePlan 0 0 99999 0 0 0 0 0 0) [] (replicate 2 0) (replicate 4 0))) .out
+    ≡ (tt, droppedProxy reason.OtherLimit noLabel (page 30 90)) ∷ (tt, proxy reason.OtherLimit noLabel (page 30 30)) ∷ (tt, point 1 2 (spot 0 0)) ∷ []
+unfolding opened
+reference-box-dropped = refl
 
 -- ---- "A circle of cells ends in a proxy if the cell met again has a box": the two cells of the P case at each depth
 

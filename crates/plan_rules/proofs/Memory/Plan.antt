@@ -29,7 +29,7 @@ use Rattle.plan_rules.specs.declared.Reason.{Reason}
 use Rattle.plan_rules.specs.declared.Reason.the-variants as reason
 use Rattle.plan_rules.specs.declared.ScenePlan.{ScenePlan}
 use Rattle.plan_rules.specs.Limits.{maxLoadProxies}
-use Rattle.plan_rules.specs.Event.{Event, batch, text, point, proxy, droppedProxy, skippedMember, skippedBatch, culledReference, culledBatch, nodeGridLimit, detailCell, totals, Step, batchAt, textAt, nodeAt, referenceAt, member, pointAt, emptyPlan}
+use Rattle.plan_rules.specs.Event.{Event, batch, text, point, proxy, droppedProxy, skippedMember, skippedBatch, culledReference, culledBatch, detailCell, totals, Step, batchAt, textAt, nodeAt, referenceAt, member, pointAt, emptyPlan}
 use Rattle.plan_rules.specs.World.{Query, hides, detailCellsFull, detailBudgetExhausted, World, world, Flow, go, halt, bind, ending, each, setMark}
 use Rattle.plan_rules.specs.Scratch.{openPlace, isMarked}
 use Rattle.plan_rules.specs.DrawUnits.{Units, counted, referenceDrawUnits}
@@ -112,10 +112,11 @@ module _ {P A : Type 0} (enter : Step → P → P) (emit : P → Event → ℕ �
   halt-with-cell-same t l x (goes h) = goes h
   halt-with-cell-same t l x (halts h) = halts (apply-same (addLoadIfBoxed enter emit t reason.OtherLimit l x) (addLoadIfBoxed enter beside t reason.OtherLimit l x) (load-if-boxed-same t reason.OtherLimit l x) h)
 
-  halt-with-member-same : (t : P) (l : ℕ) (x : WorldBBox) {f : Flow A} {g : Flow (A × Maps)} → SameFlow f g → SameFlow (haltWithMember enter emit t l x f) (haltWithMember enter beside t l x g)
-  halt-with-member-same t l x (goes h) = goes h
-  halt-with-member-same t l x (halts h) =
-      halts (apply-same (say enter emit t nodeGridLimit) (say enter beside t nodeGridLimit) (say-same t nodeGridLimit) (apply-same (addLoad enter emit t reason.OtherLimit l x) (addLoad enter beside t reason.OtherLimit l x) (load-same t reason.OtherLimit l x) h))
+  halt-with-member-same : (t here : P) (l : ℕ) (x z : WorldBBox) {f : Flow A} {g : Flow (A × Maps)} → SameFlow f g → SameFlow (haltWithMember enter emit t here l x z f) (haltWithMember enter beside t here l x z g)
+  halt-with-member-same t here l x z (goes h) = goes h
+  halt-with-member-same t here l x z (halts h) =
+      halts (apply-same (addLoad enter emit t reason.OtherLimit noLabel z) (addLoad enter beside t reason.OtherLimit noLabel z) (load-same t reason.OtherLimit noLabel z)
+      (apply-same (addLoad enter emit here reason.OtherLimit l x) (addLoad enter beside here reason.OtherLimit l x) (load-same here reason.OtherLimit l x) h))
 
   found-geometry-same : (t : P) (i : ℕ) (p : Placement) (x : Option PreparedGeometry) → Keeps (pushFoundGeometry enter emit S q t i p x) (pushFoundGeometry enter beside S q t i p x)
   unfolding pushFoundGeometry
@@ -239,7 +240,7 @@ module _ {P A : Type 0} (enter : Step → P → P) (emit : P → Event → ℕ �
           (cond-flow (not (overlaps box (q .view))) (goes (say-same here culledReference s o k m w a))
           (cond-flow (isSubpixel size) (goes (say-same here (skippedMember (sourceIsDegenerate sb) box) s o k m w a))
           (cond-flow (collapses test) (goes (load-same here (collapseReason test) (label (r .source)) box s o k m w a))
-          (halt-with-member-same here (label (r .source)) box (hv here (r .source) placement s o k m w a)))))
+          (halt-with-member-same t here (label (r .source)) box wb (hv here (r .source) placement s o k m w a)))))
 
       column-same : (u x : ℕ) → KeepsFlow (columnStep enter emit S n q f d t r p sb wb u x) (columnStep enter beside S 0 q g d t r p sb wb u x)
       unfolding columnStep

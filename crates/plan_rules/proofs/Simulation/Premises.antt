@@ -22,9 +22,8 @@ use Rattle.abstract_sheet.specs.Sheet.{NodeRecord, CellRecord, Sheet}
 use Rattle.plan_rules.specs.declared.ScenePlan.{ScenePlan}
 use Rattle.plan_rules.specs.Limits.{maxLoadProxies}
 use Rattle.plan_rules.specs.declared.Reason.{Reason}
-use Rattle.plan_rules.specs.Event.{Event, batch, text, point, proxy, droppedProxy, skippedMember, skippedBatch, culledReference, culledBatch, nodeGridLimit, detailCell, totals, Step, batchAt, textAt, nodeAt, referenceAt, member, pointAt}
+use Rattle.plan_rules.specs.Event.{Event, batch, text, point, proxy, droppedProxy, skippedMember, skippedBatch, culledReference, culledBatch, detailCell, totals, Step, batchAt, textAt, nodeAt, referenceAt, member, pointAt}
 use Rattle.plan_rules.specs.World.{Query}
-use Rattle.plan_rules.proofs.Simulation.{IsNode}
 
 -- where the list of proxies stands when one is listed, or dropped
 abbrev pub Room : ScenePlan → Event → Type 0
@@ -37,7 +36,6 @@ Room s (skippedMember g b) = Unit {0}
 Room s (skippedBatch b) = Unit {0}
 Room s culledReference = Unit {0}
 Room s culledBatch = Unit {0}
-Room s nodeGridLimit = Unit {0}
 Room s detailCell = Unit {0}
 Room s (totals u) = Unit {0}
 
@@ -66,8 +64,6 @@ module _ {P : Type 0} (enter : Step → P → P) (S : Sheet) (q : Query) where
     pub culled-reference : (t : P) → Allowed t culledReference
     pub culled-batch : (t : P) → Allowed t culledBatch
     pub detail-cell : (t : P) → Allowed t detailCell
-    pub node-grid-limit : (d : ℕ) (t : P) (n : ℕ) (r : PreparedReference) (x y : ℕ) (p : Placement) → Stands d t (Reference n) p → S .reference n ≡ some r → x < r .grid .columns → y < r .grid .rows → IsNode (r .source)
-        → Allowed (enter (member x y) t) nodeGridLimit
 
   -- where nothing is asked of tags and events
   pub no-premises : Premises (λ d t s p. Unit {0}) (λ t e. Unit {0})
@@ -87,5 +83,4 @@ module _ {P : Type 0} (enter : Step → P → P) (S : Sheet) (q : Query) where
     culled-reference = λ t. tt;
     culled-batch = λ t. tt;
     detail-cell = λ t. tt;
-    node-grid-limit = λ d t n r x y p h e k l z. tt;
   }

@@ -27,14 +27,14 @@ use Rattle.plan_rules.specs.declared.ScenePlan.{ScenePlan}
 use Rattle.plan_rules.specs.Limits.{maxLoadProxies}
 use Rattle.plan_rules.specs.declared.Reason.{Reason}
 use Rattle.plan_rules.specs.declared.Reason.the-variants as reason
-use Rattle.plan_rules.specs.Event.{Event, batch, text, point, proxy, droppedProxy, skippedMember, skippedBatch, culledReference, culledBatch, nodeGridLimit, detailCell, totals, Step, batchAt, textAt, nodeAt, referenceAt, member, pointAt, after}
+use Rattle.plan_rules.specs.Event.{Event, batch, text, point, proxy, droppedProxy, skippedMember, skippedBatch, culledReference, culledBatch, detailCell, totals, Step, batchAt, textAt, nodeAt, referenceAt, member, pointAt, after}
 use Rattle.plan_rules.specs.World.{Query, hides, detailCellsFull, detailBudgetExhausted, World, world, Flow, go, halt, setMark}
 use Rattle.plan_rules.specs.Scratch.{openPlace, isMarked}
 use Rattle.plan_rules.specs.DrawUnits.{Units, referenceDrawUnits}
 use Rattle.plan_rules.specs.Push.{say, addLoad, addLoadIfBoxed, pushFoundGeometry, pushGeometry, pushFoundText, pushText, pushPoint, pushFoundNode, pushNode}
 use Rattle.plan_rules.specs.Visit.{sourceUnits, haltWithCell, haltWithMember, VisitReference, VisitSource, geometryStep, textStep, nodeStep, referenceStep, cellBody, visitFoundCell, visitSourceWith, memberStep, columnStep, visitCountedReference, visitBoxedReference, visitSourcedReference, visitFoundReference, visitReference, visitCell}
 use Rattle.plan_rules.specs.Plan.{loadRootBox, loadRoot, visitRoot, plan}
-use Rattle.plan_rules.proofs.Simulation.{IsNode, Related, related, RelatedFlow, goes, halts, RelatedSource, source-goes, source-halts, Keeps, KeepsFlow, KeepsSource, apply-sim, apply-flow-sim, cond-sim, cond-flow-sim, bind-sim, ending-sim, each-sim}
+use Rattle.plan_rules.proofs.Simulation.{Related, related, RelatedFlow, goes, halts, Keeps, KeepsFlow, apply-sim, apply-flow-sim, cond-sim, cond-flow-sim, bind-sim, ending-sim, each-sim}
 use Rattle.plan_rules.proofs.Simulation.Premises.{Room, Premises}
 
 module _ {PA PB A B : Type 0} (enterA : Step → PA → PA) (enterB : Step → PB → PB) (emitA : PA → Event → ℕ → A → A) (emitB : PB → Event → ℕ → B → B) (S : Sheet) (cells : ℕ) (q : Query)
@@ -58,6 +58,12 @@ module _ {PA PB A B : Type 0} (enterA : Step → PA → PA) (enterB : Step → P
   halt-with-cell-sim : (ta : PA) (tb : PB) (n : ℕ) (x : Bounds) {f : Flow A} {g : Flow B} → RelatedFlow R f g → RelatedFlow R (haltWithCell enterA emitA ta n x f) (haltWithCell enterB emitB tb n x g)
   halt-with-cell-sim ta tb n x (goes h) = goes h
   halt-with-cell-sim ta tb n x (halts h) = halts (apply-sim R (addLoadIfBoxed enterA emitA ta reason.OtherLimit n x) (addLoadIfBoxed enterB emitB tb reason.OtherLimit n x) (load-if-boxed-sim ta tb reason.OtherLimit n x) h)
+
+  halt-with-member-sim : (ta ha : PA) (tb hb : PB) (l : ℕ) (x z : WorldBBox) {f : Flow A} {g : Flow B} → RelatedFlow R f g → RelatedFlow R (haltWithMember enterA emitA ta ha l x z f) (haltWithMember enterB emitB tb hb l x z g)
+  halt-with-member-sim ta ha tb hb l x z (goes h) = goes h
+  halt-with-member-sim ta ha tb hb l x z (halts h) =
+      halts (apply-sim R (addLoad enterA emitA ta reason.OtherLimit noLabel z) (addLoad enterB emitB tb reason.OtherLimit noLabel z) (load-sim ta tb reason.OtherLimit noLabel z)
+      (apply-sim R (addLoad enterA emitA ha reason.OtherLimit l x) (addLoad enterB emitB hb reason.OtherLimit l x) (load-sim ha hb reason.OtherLimit l x) h))
 
   -- ---- pushes
 
@@ -163,35 +169,22 @@ module _ {PA PB A B : Type 0} (enterA : Step → PA → PA) (enterB : Step → P
         (ending-sim R (apply-flow-sim R (cellBody enterA emitA S cells q ta n c p box va) (cellBody enterB emitB S cells q tb n c p box vb) (body-sim ta tb n c p box h e)
         (say-sim ta tb detailCell (G .detail-cell ta) s tt a b k (set m (openPlace cells n) 1) r)))))))
 
-    node-source : (x : PreparedSource) {f : Flow A} {g : Flow B} → IsNode x → RelatedFlow R f g → RelatedSource R x f g
-    node-source x h (goes y) = source-goes y
-    node-source x h (halts y) = source-halts h y
-
-    pub source-sim : (ta : PA) (tb : PB) (x : PreparedSource) (p : Placement) → Stands d ta x p → KeepsSource R x (visitSourceWith enterA emitA S cells q va ta x p) (visitSourceWith enterB emitB S cells q vb tb x p)
+    pub source-sim : (ta : PA) (tb : PB) (x : PreparedSource) (p : Placement) → Stands d ta x p → KeepsFlow R (visitSourceWith enterA emitA S cells q va ta x p) (visitSourceWith enterB emitB S cells q vb tb x p)
     unfolding visitSourceWith
-    source-sim ta tb (Geometry n) p h s a b k m r = source-goes (geometry-sim d ta tb n p h s a b k m r)
-    source-sim ta tb (Text n) p h s a b k m r = source-goes (text-sim d ta tb n p h s a b k m r)
-    source-sim ta tb (Node n) p h s a b k m r = node-source (Node n) tt (node-sim d ta tb n p h s a b k m r)
-    source-sim ta tb (Reference n) p h s a b k m r = source-goes (hv ta tb n p h s a b k m r)
-    source-sim ta tb (Cell n) p h s a b k m r = source-goes (found-cell-sim ta tb n p h (S .cell n) refl s a b k m r)
+    source-sim ta tb (Geometry n) p h s a b k m r = goes (geometry-sim d ta tb n p h s a b k m r)
+    source-sim ta tb (Text n) p h s a b k m r = goes (text-sim d ta tb n p h s a b k m r)
+    source-sim ta tb (Node n) p h s a b k m r = node-sim d ta tb n p h s a b k m r
+    source-sim ta tb (Reference n) p h s a b k m r = goes (hv ta tb n p h s a b k m r)
+    source-sim ta tb (Cell n) p h s a b k m r = goes (found-cell-sim ta tb n p h (S .cell n) refl s a b k m r)
 
   -- ---- a reference, given that the visit of its members' sources keeps the relation
 
   abbrev pub KeepsMembers : VisitSource enterA emitA S cells q → VisitSource enterB emitB S cells q → PA → PB → PreparedReference → Placement → Type 0
   KeepsMembers va vb ta tb r p = (x y : ℕ) → x < r .grid .columns → y < r .grid .rows
-      → KeepsSource R (r .source) (va (enterA (member x y) ta) (r .source) (p · gridMemberTransform (r .grid) x y)) (vb (enterB (member x y) tb) (r .source) (p · gridMemberTransform (r .grid) x y))
+      → KeepsFlow R (va (enterA (member x y) ta) (r .source) (p · gridMemberTransform (r .grid) x y)) (vb (enterB (member x y) tb) (r .source) (p · gridMemberTransform (r .grid) x y))
 
   module _ (d : ℕ) (va : VisitSource enterA emitA S cells q) (vb : VisitSource enterB emitB S cells q) (ta : PA) (tb : PB) (n : ℕ) (r : PreparedReference) (p : Placement) (sb wb : WorldBBox)
       (h : Stands d ta (Reference n) p) (e : S .reference n ≡ some r) (eb : r .«source_bbox» ≡ boxed sb) (hv : KeepsMembers va vb ta tb r p) where
-    halt-with-member-sim : (x y : ℕ) → x < r .grid .columns → y < r .grid .rows → (l : ℕ) (z : WorldBBox) {f : Flow A} {g : Flow B} → RelatedSource R (r .source) f g
-        → RelatedFlow R (haltWithMember enterA emitA (enterA (member x y) ta) l z f) (haltWithMember enterB emitB (enterB (member x y) tb) l z g)
-    halt-with-member-sim x y x< y< l z (source-goes u) = goes u
-    halt-with-member-sim x y x< y< l z (source-halts i u) =
-        let ha = enterA (member x y) ta in
-        let hb = enterB (member x y) tb in
-        halts (apply-sim R (say enterA emitA ha nodeGridLimit) (say enterB emitB hb nodeGridLimit) (λ s. say-sim ha hb nodeGridLimit (G .node-grid-limit d ta n r x y p h e x< y< i) s tt)
-        (apply-sim R (addLoad enterA emitA ha reason.OtherLimit l z) (addLoad enterB emitB hb reason.OtherLimit l z) (load-sim ha hb reason.OtherLimit l z) u))
-
     pub member-sim : (u x : ℕ) → x < r .grid .columns → (y : ℕ) → y < r .grid .rows → KeepsFlow R (memberStep enterA emitA S cells q va d ta r p sb wb u x y) (memberStep enterB emitB S cells q vb d tb r p sb wb u x y)
     unfolding memberStep
     member-sim u x x< y y< s a b k m o =
@@ -203,7 +196,7 @@ module _ {PA PB A B : Type 0} (enterA : Step → PA → PA) (enterB : Step → P
         (λ _. cond-flow-sim R (not (overlaps box (q .view))) (λ _. goes (say-sim hereA hereB culledReference (G .culled-reference hereA) s tt a b k m o))
         (λ _. cond-flow-sim R (isSubpixel size) (λ i. goes (say-sim hereA hereB (skippedMember (sourceIsDegenerate sb) box) (G .skipped-member d ta n r sb x y p h e eb x< y< i) s tt a b k m o))
         (λ _. cond-flow-sim R (collapses (collapseTest (size .width) (size .height) 1 u d false)) (λ _. goes (load-sim hereA hereB _ (label (r .source)) box s a b k m o))
-        (λ _. halt-with-member-sim x y x< y< (label (r .source)) box (hv x y x< y< s a b k m o)))))
+        (λ _. halt-with-member-sim ta hereA tb hereB (label (r .source)) box wb (hv x y x< y< s a b k m o)))))
 
     pub column-sim : (u x : ℕ) → x < r .grid .columns → KeepsFlow R (columnStep enterA emitA S cells q va d ta r p sb wb u x) (columnStep enterB emitB S cells q vb d tb r p sb wb u x)
     unfolding columnStep
@@ -245,7 +238,7 @@ module _ {PA PB A B : Type 0} (enterA : Step → PA → PA) (enterB : Step → P
 
   pub reference-sim : (d : ℕ) → KeepsReferences d (visitReference enterA emitA S cells q d) (visitReference enterB emitB S cells q d)
   unfolding visitReference
-  reference-sim zero ta tb n p h = found-reference-sim 0 (λ t s p w. go w) (λ t s p w. go w) ta tb n p h (λ r e x y x< y< s a b k m i. source-goes (related i)) (S .reference n) refl
+  reference-sim zero ta tb n p h = found-reference-sim 0 (λ t s p w. go w) (λ t s p w. go w) ta tb n p h (λ r e x y x< y< s a b k m i. goes (related i)) (S .reference n) refl
   reference-sim (suc d) ta tb n p h =
       found-reference-sim (suc d) (visitSourceWith enterA emitA S cells q (visitReference enterA emitA S cells q d)) (visitSourceWith enterB emitB S cells q (visitReference enterB emitB S cells q d)) ta tb n p h
       (λ r e x y x< y<. source-sim d (visitReference enterA emitA S cells q d) (visitReference enterB emitB S cells q d) (reference-sim d) (enterA (member x y) ta) (enterB (member x y) tb) (r .source) (p · gridMemberTransform (r .grid) x y) (G .at-member d ta n r x y p h e x< y<))

@@ -75,7 +75,7 @@ pub +visit-cell+visit-reference+visit-source-spec : {M : Type 1} → statement M
     (VisitReference.member-is-there t)
     (VisitReference.depth-is-left t)
     (VisitReference.source-falls t)
-    (λ c κs. search needs)  -- add-load-requires-2
+    (λ c κs. search needs)  -- load-member-requires
     (VisitReference.source-halts-out t)
     (VisitReference.source-halts-counts t)
     (VisitReference.source-halts-marks t)

@@ -20,6 +20,7 @@ use Rattle.visit_items.proofs.push_items.Reads as push-items-reads
 use Rattle.records.proofs.label.Reads as label-reads
 use Rattle.units.proofs.source_units.Reads as source-units-reads
 use Rattle.enter_cell.proofs.enter_cell.Reads as enter-cell-reads
+use Rattle.try_member.proofs.load_member.Reads as load-member-reads
 use Rattle.try_member.proofs.try_member.Reads as try-member-reads
 use Rattle.open_reference.proofs.reference_test.Reads as reference-test-reads
 use Rattle.events.proofs.collapse_reason.Reads as collapse-reason-reads
@@ -74,7 +75,7 @@ abbrev pub visit-cell-claims : ℕ → visit-cell-lts.Claims
 visit-cell-claims t = (look-up-reads.Asked, look-up-reads.Learnt, cell-at-reads.Asked, cell-at-reads.Learnt, enter-cell-reads.Asked, enter-cell-reads.Learnt, push-items-reads.Asked, push-items-reads.Learnt, detail-budget-exhausted-reads.Asked, detail-budget-exhausted-reads.Learnt, load-cell-reads.Asked, load-cell-reads.Learnt, stack-remove-reads.Asked, stack-remove-reads.Learnt, cell-reference-at-reads.Asked, cell-reference-at-reads.Learnt, visit-reference-below t, visit-reference.Post)
 
 abbrev pub visit-reference-claims : ℕ → visit-reference-lts.Claims
-visit-reference-claims t = (look-up-reads.Asked, look-up-reads.Learnt, reference-at-reads.Asked, reference-at-reads.Learnt, open-reference-reads.Asked, open-reference-reads.Learnt, grid-count-reads.Asked, grid-count-reads.Learnt, reference-draw-units-reads.Asked, reference-draw-units-reads.Learnt, reference-test-reads.Asked, reference-test-reads.Learnt, label-reads.Asked, label-reads.Learnt, collapses-reads.Asked, collapses-reads.Learnt, collapse-reason-reads.Asked, collapse-reason-reads.Learnt, add-load-reads.Asked, add-load-reads.Learnt, source-units-reads.Asked, source-units-reads.Learnt, try-member-reads.Asked, try-member-reads.Learnt, visit-source-below t, visit-source.Post)
+visit-reference-claims t = (look-up-reads.Asked, look-up-reads.Learnt, reference-at-reads.Asked, reference-at-reads.Learnt, open-reference-reads.Asked, open-reference-reads.Learnt, grid-count-reads.Asked, grid-count-reads.Learnt, reference-draw-units-reads.Asked, reference-draw-units-reads.Learnt, reference-test-reads.Asked, reference-test-reads.Learnt, label-reads.Asked, label-reads.Learnt, collapses-reads.Asked, collapses-reads.Learnt, collapse-reason-reads.Asked, collapse-reason-reads.Learnt, add-load-reads.Asked, add-load-reads.Learnt, source-units-reads.Asked, source-units-reads.Learnt, try-member-reads.Asked, try-member-reads.Learnt, visit-source-below t, visit-source.Post, load-member-reads.Asked, load-member-reads.Learnt)
 
 abbrev pub visit-source-claims : ℕ → visit-source-lts.Claims
 visit-source-claims t = (visit-cell-below t, visit-cell.Post, push-geometries-reads.Asked, push-geometries-reads.Learnt, push-texts-reads.Asked, push-texts-reads.Learnt, push-nodes-reads.Asked, push-nodes-reads.Learnt, visit-reference-below t, visit-reference.Post)

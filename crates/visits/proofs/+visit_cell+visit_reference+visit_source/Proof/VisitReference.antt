@@ -247,7 +247,7 @@ module _ (t : ℕ) where
   member c = turn (head c) (head c .loop .i) (here (head c))
 
   tried : (c : Tried) → let o = opened-at (head c) in let a = entry o .args in
-      leftOfMember (lent-to (entry o)) (onSource (lent-to (entry o)) (a .depth - 1)) (read o .reference-at .result) (c .try-member .result) (passed c) ≡ member c
+      leftOfMember (lent-to (entry o)) (onSource (lent-to (entry o)) (a .depth - 1)) (read o .reference-at .result) (o .open-reference .result .«world_bbox») (c .try-member .result) (passed c) ≡ member c
   tried c =
       let s = entry (opened-at (head c)) in
       c .try-member .ensures (lent-to s) (onSource (lent-to s) (s .args .depth - 1)) (head c .loop .counts) (head c .loop .marks)
@@ -273,16 +273,16 @@ module _ (t : ℕ) where
       let m = after-if3 .before .before .before .before in
       let labelled = asked (head m) .before in
       halts m _
-      (References.source-halted (m .try-member .result .opens) (m .try-member .result .whole) _ (m .try-member .result .bbox) (passed m) (visited m) _ (tried m)
+      (References.source-halted (m .try-member .result .opens) (m .try-member .result .whole) _ (m .try-member .result .bbox) _ (passed m) (visited m) _ (tried m)
       (after-if3 .if3 .taken) (sourced .visit-source .result .whole) (world (sourced .visit-source .result .plan) (sourced .visit-source .last .1 .1 .1 .1 .0) (sourced .visit-source .last .1 .1 .1 .1 .1 .0) (sourced .visit-source .last .1 .1 .1 .1 .1 .1 .0)) (sourced .visit-source .ensures) (not-true _ (after-if4 .if4 .taken))
-      (labelled .label .result) (labelled .label .ensures) _ (added .add-load2 .ensures (sourced .visit-source .last .1 .1 .1 .1 .1 .0) (sourced .visit-source .last .1 .1 .1 .1 .1 .1 .0)))
+      (labelled .label .result) (labelled .label .ensures) _ (added .load-member .ensures (sourced .visit-source .last .1 .1 .1 .1 .1 .0) (sourced .visit-source .last .1 .1 .1 .1 .1 .1 .0)))
 
   pub source-halts-out : lts.Need-same-length-5 (visit-reference-claims t) (visit-reference-at t) visit-reference.Post Inv-loop μ-loop
   source-halts-out c =
       let added = c .before .before in
       let sourced = c .before .before .before .before .before .before .before .before .before .before .before .before .before in
       let m = sourced .before .before .before .before .before .before .before .before in
-      added .add-load2 .kept .0 ∙ sourced .visit-source .kept .1 .1 .1 .1 .0 ∙ m .try-member .kept .1 .0 ∙ out-length (head m)
+      added .load-member .kept .0 ∙ sourced .visit-source .kept .1 .1 .1 .1 .0 ∙ m .try-member .kept .1 .0 ∙ out-length (head m)
 
   pub source-halts-counts : lts.Need-same-length-6 (visit-reference-claims t) (visit-reference-at t) visit-reference.Post Inv-loop μ-loop
   source-halts-counts c =
@@ -298,7 +298,7 @@ module _ (t : ℕ) where
   member-halts c =
       let after-if3 = c .before .before in
       let after-try-member = after-if3 .before .before .before .before in
-      halts after-try-member _ (References.member-halted (after-try-member .try-member .result .opens) (after-try-member .try-member .result .whole) _ (after-try-member .try-member .result .bbox) (passed after-try-member) (visited after-try-member) _ (tried after-try-member) (after-if3 .if3 .left) (not-true _ (c .if5 .taken)))
+      halts after-try-member _ (References.member-halted (after-try-member .try-member .result .opens) (after-try-member .try-member .result .whole) _ (after-try-member .try-member .result .bbox) _ (passed after-try-member) (visited after-try-member) _ (tried after-try-member) (after-if3 .if3 .left) (not-true _ (c .if5 .taken)))
 
   pub member-halts-out : lts.Need-same-length-8 (visit-reference-claims t) (visit-reference-at t) visit-reference.Post Inv-loop μ-loop
   member-halts-out c =
@@ -336,7 +336,7 @@ module _ (t : ℕ) where
         ap length (w .16) ∙ w .4 .kept .1 .1 .1 .1 .1 .1 .0 ∙ after-loop .loop .inv .4,
         after-loop .loop .inv .5
             ∙ goes-on after-try-member _
-            (References.source-passed (after-try-member .try-member .result .opens) (after-try-member .try-member .result .whole) _ (after-try-member .try-member .result .bbox) (passed after-try-member) (visited after-try-member) _ (tried after-try-member)
+            (References.source-passed (after-try-member .try-member .result .opens) (after-try-member .try-member .result .whole) _ (after-try-member .try-member .result .bbox) _ (passed after-try-member) (visited after-try-member) _ (tried after-try-member)
             (w .0 .taken) (w .4 .result .whole) (world (w .4 .result .plan) (w .4 .last .1 .1 .1 .1 .0) (w .4 .last .1 .1 .1 .1 .1 .0) (w .4 .last .1 .1 .1 .1 .1 .1 .0)) (w .4 .ensures) (not-false _ (w .13 .left)) _ (λ j. world (w .17 j) (w .14 j) (w .15 j) (w .16 j))),
       ))
       (λ w. (
@@ -347,6 +347,6 @@ module _ (t : ℕ) where
         ap length (w .5) ∙ after-loop .loop .inv .4,
         after-loop .loop .inv .5
             ∙ goes-on after-try-member _
-            (References.member-passed (after-try-member .try-member .result .opens) (after-try-member .try-member .result .whole) _ (after-try-member .try-member .result .bbox) (passed after-try-member) (visited after-try-member) _ (tried after-try-member) (w .0 .left) (not-false _ (w .2 .left)) _ (λ j. world (w .6 j) (w .3 j) (w .4 j) (w .5 j))),
+            (References.member-passed (after-try-member .try-member .result .opens) (after-try-member .try-member .result .whole) _ (after-try-member .try-member .result .bbox) _ (passed after-try-member) (visited after-try-member) _ (tried after-try-member) (w .0 .left) (not-false _ (w .2 .left)) _ (λ j. world (w .6 j) (w .3 j) (w .4 j) (w .5 j))),
       ))
       (c .if3 .came)
