@@ -3,7 +3,7 @@
 mod sheets;
 
 use ribaltzen::{Buffers, Lent, Placement, Query, Record, Totals, WorldBBox, hidden_layer, plan};
-use sheets::{of_every_kind, worked};
+use sheets::{cell, node, of_every_kind, row, worked};
 
 const VIEW: WorldBBox = WorldBBox::new(0.0, 0.0, 100.0, 100.0);
 const QUERY: Query = Query::new(0, 1, VIEW, 1.0);
@@ -110,6 +110,26 @@ fn depth_0_gives_one_proxy() {
         bbox: WorldBBox::new(0.0, 0.0, 200.0, 100.0),
     };
     assert_eq!((listed[0], listed.len()), (proxy, 2));
+}
+
+/// The limit of 20,000 objects is met at the third point of member 6,666.
+#[test]
+fn a_row_of_nodes_that_runs_out_is_boxed_as_a_whole() {
+    let points = [[0.0, 0.0], [30.0, 0.0], [0.0, 30.0]];
+    let sheet = [
+        node(3, 9, &points),
+        row(6_700, (3, 0), [0.0, 0.0], [0.0, 0.0, 30.0, 30.0]),
+        cell(Some([0.0, 0.0, 6_729.0, 30.0]), [&[], &[], &[], &[0]]),
+    ]
+    .concat();
+    let view = WorldBBox::new(0.0, 0.0, 7_000.0, 100.0);
+    let listed = records(&sheet, &Query::new(0, 2, view, 1.0));
+    let proxy = |min_x, max_x| Record::Proxy {
+        label: None,
+        bbox: WorldBBox::new(min_x, 0.0, max_x, 30.0),
+    };
+    let boxes = [proxy(6_666.0, 6_696.0), proxy(0.0, 6_729.0)];
+    assert_eq!(listed[20_000..listed.len() - 1], boxes);
 }
 
 #[test]

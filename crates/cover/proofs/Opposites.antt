@@ -350,8 +350,8 @@ newest [] = detailCell
 newest (x ∷ l) = x .1
 
 -- but it is not what the rules leave, as `IsTape` asks
-dropped-invented : (n : ℕ) → events labelled 1 (see 0) (replicate 1 0) (replicate 3 0) ≡ invented n → ⊥
-dropped-invented n e = let f = ap newest (sym limit-plan ∙ e) in let z : _≡_ {A = ℕ} 0 1 = cc in let y : ⊥ = omega arith in y
+dropped-invented : (n : ℕ) → withoutTotals (events labelled 1 (see 0) (replicate 1 0) (replicate 3 0)) ≡ invented n → ⊥
+dropped-invented n e = let f = ap newest (sym (ap withoutTotals limit-plan) ∙ e) in let z : _≡_ {A = ℕ} 0 1 = cc in let y : ⊥ = omega arith in y
 
 -- of any call: no event can be added, written or not
 event-added : (sheet : List ℕ) (q : Query) (o : Outcome) (lent : List ℕ) (x : Path × Event) → IsTape sheet q o (x ∷ eventsOf sheet q) lent → ⊥

@@ -2,7 +2,7 @@
 --     Path         path, step, item: those of `paths`, at exact placements
 --     View         in view, shown, within a box
 --     Trace        what happened in a plan, each event with its path
---     Covered      listed, dropped, skipped, grid of bare node points, follow
+--     Covered      listed, dropped, skipped, covered
 --     Demand3      the statement: of the rules' events, and of the bytes of a call
 --     Manual       statement of demand 2: the manual's placing along a path
 -- A placed box is `exact`'s `place`; square sheets and true boxes are `paths`'s. Definitions only; the proof is in proofs/.

@@ -24,7 +24,7 @@ use Rattle.plan_rules.specs.Visit.{VisitReference, visitSourceWith, memb
 use Rattle.plan_rules.specs.NodeGrid.{NodeStopsAtObjects, RunsOut, NodeGridRunsOut, MemberBoxIsListed, visitMember, visitColumn, memberBox}
 use Rattle.plan_rules.proofs.Paths.Loops.{each-halts-at}
 
-module _ {P A : Type 0} (enter : Step → P → P) (emit : P → Event → ℕ → A → A) (S : Sheet) (cells : ℕ) (q : Query) where
+module _ {P A : Type 0} (enter : Step → P → P) (emit : P → Event → ℕ → A → A) (S : Sheet) (q : Query) where
   -- ---- a node's points
 
   -- as many texts and proxies as before; and where they stop, a limit is met
@@ -82,7 +82,7 @@ module _ {P A : Type 0} (enter : Step → P → P) (emit : P → Event → ℕ �
   abbrev proxiesFull : World A → Bool
   proxiesFull w = leb maxLoadProxies (w .state .«load_proxies»)
 
-  pub node-stops-at-objects : NodeStopsAtObjects enter emit S cells q
+  pub node-stops-at-objects : NodeStopsAtObjects enter emit S q
   unfolding pushNode detailBudgetExhausted
   node-stops-at-objects t n p w v h e =
       let stops : Stops (w .state) (halt v) = subst (Stops (w .state)) e (found-stops t p (S .node n) w) in
@@ -92,29 +92,29 @@ module _ {P A : Type 0} (enter : Step → P → P) (emit : P → Event → ℕ �
 
   -- ---- a grid of bare node points
 
-  module _ (visit : VisitReference enter emit S cells q) (depth : ℕ) (t : P) (r : PreparedReference) (n : ℕ) (p : Placement) (sourceBox worldBox : WorldBBox) (units : ℕ) where
+  module _ (cells : ℕ) (visit : VisitReference enter emit S cells q) (depth : ℕ) (t : P) (r : PreparedReference) (n : ℕ) (p : Placement) (sourceBox worldBox : WorldBBox) (units : ℕ) where
     abbrev bothBoxes : ℕ → ℕ → World A → World A
     bothBoxes column row v =
         addLoad enter emit t reason.OtherLimit noLabel worldBox
-        (addLoad enter emit (enter (member column row) t) reason.OtherLimit noLabel (memberBox enter emit S cells q visit depth t r n p sourceBox worldBox units column row) v)
+        (addLoad enter emit (enter (member column row) t) reason.OtherLimit noLabel (memberBox enter emit S q cells visit depth t r n p sourceBox worldBox units column row) v)
 
     abbrev Out : ℕ → ℕ → World A → World A → Type 0
-    Out = RunsOut enter emit S cells q visit depth t r n p sourceBox worldBox units
+    Out = RunsOut enter emit S q cells visit depth t r n p sourceBox worldBox units
 
     abbrev turn : ℕ → ℕ → World A → Flow A
-    turn = visitMember enter emit S cells q visit depth t r n p sourceBox worldBox units
+    turn = visitMember enter emit S q cells visit depth t r n p sourceBox worldBox units
 
     member-halts : (column row : ℕ) (w v : World A) → r .source ≡ Node n → (o : Out column row w v) → turn column row (o .w₂) ≡ halt (bothBoxes column row v)
     unfolding memberStep visitSourceWith label
     member-halts column row w v source o = rw (o .room, o .in-view, o .large, o .visited, source, o .stopped)
 
-    pub node-grid-runs-out : NodeGridRunsOut enter emit S cells q visit depth t r n p sourceBox worldBox units
+    pub node-grid-runs-out : NodeGridRunsOut enter emit S q cells visit depth t r n p sourceBox worldBox units
     unfolding columnStep
     node-grid-runs-out column row w v source column< row< o =
-        each-halts-at (visitColumn enter emit S cells q visit depth t r n p sourceBox worldBox units) (r .grid .columns) column w (o .w₁) _ column< (o .columns-before)
+        each-halts-at (visitColumn enter emit S q cells visit depth t r n p sourceBox worldBox units) (r .grid .columns) column w (o .w₁) _ column< (o .columns-before)
         (each-halts-at (turn column) (r .grid .rows) row (o .w₁) (o .w₂) _ row< (o .rows-before) (member-halts column row w v source o))
 
-    pub member-box-is-listed : MemberBoxIsListed enter emit S cells q visit depth t r n p sourceBox worldBox units
+    pub member-box-is-listed : MemberBoxIsListed enter emit S q cells visit depth t r n p sourceBox worldBox units
     unfolding addLoad detailBudgetExhausted
     member-box-is-listed column row w v o =
         let same = node-stops-at-objects (enter (member column row) t) n _ (o .w₂) v (o .room) (o .stopped) .1 in

@@ -21,14 +21,14 @@ use Rattle.plan_rules.specs.World.{Query, detailBudgetExhausted, World, 
 use Rattle.plan_rules.specs.Push.{say, addLoad, pushNode}
 use Rattle.plan_rules.specs.Visit.{VisitReference, visitSourceWith, memberStep, columnStep}
 
-module _ {P A : Type 0} (enter : Step → P → P) (emit : P → Event → ℕ → A → A) (S : Sheet) (cells : ℕ) (q : Query) where
+module _ {P A : Type 0} (enter : Step → P → P) (emit : P → Event → ℕ → A → A) (S : Sheet) (q : Query) where
   -- Which limit a node's points can meet: they add objects alone, so it is the object limit if none was met before.
   abbrev pub NodeStopsAtObjects : Type 0
   NodeStopsAtObjects = (t : P) (n : ℕ) (p : Placement) (w v : World A) → detailBudgetExhausted q (w .state) ≡ false → pushNode enter emit S q t n p w ≡ halt v
       → (v .state .texts ≡ w .state .texts) × (v .state .«load_proxies» ≡ w .state .«load_proxies») × (q .objectLimit ≤ v .state .«detail_objects»)
 
   -- A reference at the tag t to node n, "a grid of bare node points", at its members. How references are visited does not matter: no member is one.
-  module _ (visit : VisitReference enter emit S cells q) (depth : ℕ) (t : P) (r : PreparedReference) (n : ℕ) (p : Placement) (sourceBox worldBox : WorldBBox) (units : ℕ) where
+  module _ (cells : ℕ) (visit : VisitReference enter emit S cells q) (depth : ℕ) (t : P) (r : PreparedReference) (n : ℕ) (p : Placement) (sourceBox worldBox : WorldBBox) (units : ℕ) where
     abbrev pub visitMember : ℕ → ℕ → World A → Flow A
     visitMember = memberStep enter emit S cells q (visitSourceWith enter emit S cells q visit) depth t r p sourceBox worldBox units
 
@@ -46,6 +46,7 @@ module _ {P A : Type 0} (enter : Step → P → P) (emit : P → Event → ℕ �
 
     -- It "meets a limit" at the member of a column and a row: the members before it went by, its node is visited, and one of the points finds a limit met, in the world v.
     pub record RunsOut (column row : ℕ) (w v : World A) : Type 0 where
+      -- behind the columns before it, and right before it
       pub w₁ : World A
       pub w₂ : World A
       pub columns-before : each visitColumn column 0 w ≡ go w₁

@@ -2,7 +2,7 @@
 //! lists and chains are made by `long`.
 
 use super::boxes::grow_true_boxes;
-use super::edges::at_limits::{after_both, after_cells, after_objects, after_proxies, after_texts, grids};
+use super::edges::at_limits::{after_both, after_cells, after_objects, after_proxies, after_texts, grids, room_for_both_boxes};
 use super::encode::{QUARTERS, grid, input, query_bytes, single};
 use super::long;
 use super::rng::Rng;
@@ -108,6 +108,7 @@ pub const LARGE: &[Large] = &[
     large("node grid of six, the limit in member", 4, limit_in_member),
     large("node grid of six, the limit in member", 6, limit_in_member),
     large("node grid of one, the limit in member", 1, limit_in_only_member),
+    large("node grid, two short of 100,000 proxies", 99_998, room_for_both_boxes),
 ];
 
 const WIDE: [f64; 4] = [-1e9, -1e9, 1e9, 1e9];

@@ -43,7 +43,17 @@ pub fn node(layer: u16, node_type: u16, points: &[[f64; 2]]) -> Vec<u8> {
 
 /// A row of so many members of a cell at an origin, one unit apart, with the cell's box.
 pub fn reference(columns: u16, cell: u32, origin: [f64; 2], bbox: [f64; 4]) -> Vec<u8> {
-    let head = [halves(&[columns, 1, 2, 5]), cell.to_le_bytes().to_vec()].concat();
+    row(columns, (5, cell), origin, bbox)
+}
+
+/// The same of a source by its kind and number.
+pub fn row(columns: u16, source: (u16, u32), origin: [f64; 2], bbox: [f64; 4]) -> Vec<u8> {
+    let (kind, number) = source;
+    let head = [
+        halves(&[columns, 1, 2, kind]),
+        number.to_le_bytes().to_vec(),
+    ]
+    .concat();
     let grid = floats(&[origin[0], origin[1], 1.0, 0.0, 0.0, 0.0, 1.0, 1.0, 0.0]);
     record(4, &[head, grid, floats(&bbox)].concat())
 }

@@ -2,6 +2,7 @@
 import itertools
 import math
 import random
+import struct
 import subprocess
 
 from cutter.records import cut
@@ -160,10 +161,12 @@ def try_nodes(plan):
     same("nodes.txt, the end in docs/SHEETS.md", "".join("    " + line for line in lines[20000:]),
          blocks_behind(file_text("docs", "SHEETS.md"), "nodes.txt")[0])
     wide = sample.replace("3600,3000", "4000,5000")
+    whole = "proxy none %s" % " ".join(struct.pack(">d", side).hex() for side in (0, 0, 58 * 40 + 30, 112 * 40 + 30))
     even = wide.replace("0,0;30,0;0,30", "0,0;30,0;0,30;30,30")
-    for what, description, members, proxies in (("in the last member", wide, "columns=59 rows=113", 2), ("at the end", even, "columns=50 rows=100", 0),
-                                                ("at a member's end", even, "columns=51 rows=100", 1)):
-        lines = printed(plan, description.replace("columns=90 rows=75", members)).splitlines()
+    lines = printed(plan, wide.replace("columns=90 rows=75", "columns=59 rows=113")).splitlines()
+    same("a limit in the last member", [len(lines) - 20000, lines[20001]], [3, whole])
+    for what, members, proxies in (("at the end", "columns=50 rows=100", 0), ("at a member's end", "columns=51 rows=100", 1)):
+        lines = printed(plan, even.replace("columns=90 rows=75", members)).splitlines()
         same("a limit " + what, [line.split()[:2] for line in lines[20000:]], [["proxy", "none"]] * proxies + [["totals", "1"]])
 
 

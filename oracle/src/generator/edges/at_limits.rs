@@ -107,33 +107,41 @@ pub fn after_texts(rng: &mut Rng, seed: u64) -> Vec<u8> {
     finish(sheet, fill, TEXTS_NEXT[seed as usize], Vec::new(), rng)
 }
 
-/// A small reference, and a grid that places cell 3, which lists it 33,333 times, three times.
-fn proxies(sheet: &mut Sheet) -> (u32, Vec<u32>) {
+/// A small reference, and a grid that places cell 3, which lists it `each` times, `times` times.
+fn proxies(sheet: &mut Sheet, times: u16, each: usize) -> (u32, Vec<u32>) {
     let small = sheet.reference(single(Source::Cell(70), Some([0.0, 0.0, 20.0, 20.0])));
-    let fill = sheet.reference(grid(Source::Cell(3), Some([0.0, 0.0, 4000.0, 4000.0]), (3, 1), [5000.0, 0.0]));
-    (fill, vec![small; 33_333])
+    let fill = sheet.reference(grid(Source::Cell(3), Some([0.0, 0.0, 4000.0, 4000.0]), (times, 1), [5000.0, 0.0]));
+    (fill, vec![small; each])
 }
 
 /// 99,999 proxies, and then what the seed says.
 pub fn after_proxies(rng: &mut Rng, seed: u64) -> Vec<u8> {
     let mut sheet = records();
-    let (fill, filling) = proxies(&mut sheet);
+    let (fill, filling) = proxies(&mut sheet, 3, 33_333);
     finish(sheet, vec![fill], PROXIES_NEXT[seed as usize], filling, rng)
 }
 
 /// 19,999 objects and 99,999 proxies, and then what the seed says.
 pub fn after_both(rng: &mut Rng, seed: u64) -> Vec<u8> {
     let mut sheet = records();
-    let (fill, filling) = proxies(&mut sheet);
+    let (fill, filling) = proxies(&mut sheet, 3, 33_333);
     let objects = grids(&mut sheet, Source::Batch(0), [0.0, 0.0, 30.0, 30.0], 19_999);
     finish(sheet, [vec![fill], objects].concat(), BOTH_NEXT[seed as usize], filling, rng)
+}
+
+/// 19,999 objects and 99,998 proxies, and then a grid of nodes: the list has room for its member's box and the whole reference's.
+pub fn room_for_both_boxes(rng: &mut Rng, _: u64) -> Vec<u8> {
+    let mut sheet = records();
+    let (fill, filling) = proxies(&mut sheet, 2, 49_999);
+    let objects = grids(&mut sheet, Source::Batch(0), [0.0, 0.0, 30.0, 30.0], 19_999);
+    finish(sheet, [vec![fill], objects].concat(), "N", filling, rng)
 }
 
 /// 99,999 proxies and, with the cells that these take, all of 20,000 cells: the limit is met by one member more (seed 0), or by the
 /// next reference (seed 1).
 pub fn after_cells(rng: &mut Rng, seed: u64) -> Vec<u8> {
     let mut sheet = records();
-    let (fill, filling) = proxies(&mut sheet);
+    let (fill, filling) = proxies(&mut sheet, 3, 33_333);
     let cells = grids(&mut sheet, Source::Cell(5), [0.0, 0.0, 30.0, 30.0], 19_997 - seed as u16);
     finish(sheet, [vec![fill], cells].concat(), "b", filling, rng)
 }
