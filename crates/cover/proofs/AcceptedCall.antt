@@ -1,36 +1,30 @@
 -- AN ACCEPTED CALL: its output is the records of the rules' events, and acceptance gives what questions 4, 9 and 10 ask (`accepted-call`). So demand 3 of the rules is demand 3 of a call.
 -- Assumes nothing.
 use mathlib.Core.Path.{_≡_, refl, sym, ap, subst, _∙_}
-use mathlib.Core.Bool.{Bool, true, false, cond}
+use mathlib.Core.Bool.{false}
 use mathlib.Core.List.{List, [], _++_}
-use Prim.Native.Nat.{ℕ, suc, _≤_}
+use Prim.Native.Nat.{ℕ, _≤_}
 use native.Mathlib.Omega.{arith}
 use lib.ListN.{length, drop, replicate}
-use lib.Dec.{leb}
 use lib.Dec.{T as Yes}
 use lib.IntN.{pos}
 use lib.Ieee.{fin, lt}
 use Rattle.abstract_sheet.specs.Sheet.{Sheet, sheetOf}
 use Rattle.check_sheet.specs.declared.Counts.{Counts}
-use Rattle.check_sheet.specs.declared.Checked.{Checked}
-use Rattle.check_sheet.specs.declared.Checked.the-variants as checked
 use Rattle.check_sheet.specs.Count.{countsOf}
-use Rattle.check_sheet.specs.Check.{checkSheet}
 use Rattle.check_sheet.specs.Valid.{Valid}
 use Rattle.check_sheet.proofs.Valid.{sound-valid, sound-counts}
-use Rattle.check_sheet.proofs.Numbered.{Numbered, refused, sheet-numbered}
 use Rattle.check_sheet.proofs.WellFormed.Limits.{reference-limits}
 use Rattle.plan_rules.specs.declared.ScenePlan.{ScenePlan}
-use Rattle.plan_rules.specs.declared.Answer.the-variants.{Planned, NoRoom}
 use Rattle.plan_rules.specs.Limits.{maxDepth}
 use Rattle.plan_rules.specs.Event.{Event, Step, encode, emptyPlan, after}
 use Rattle.plan_rules.specs.World.{Query, world}
 use Rattle.plan_rules.specs.Scratch.{countsNamed, marksNamed}
 use Rattle.plan_rules.specs.Plan.{plan}
 use Rattle.plan_rules.specs.Tape.{noTag, note, tape}
-use Rattle.plan_rules.specs.Outcome.{Outcome, outcome, freshPlan, tapeOf, zeroed, delivered, soundOutcome, checkedOutcome, outcomeOf}
+use Rattle.plan_rules.specs.Outcome.{Outcome, freshPlan, tapeOf, outcomeOf}
 use Rattle.plan_rules.proofs.Questions.{passed, zoom-positive}
-use Rattle.plan_rules.proofs.OutcomeTheorem.{query-passed, accepted-passed}
+use Rattle.plan_rules.proofs.Accepted.{accepted}
 use Rattle.plan_rules.proofs.Simulation.{the-relation}
 use Rattle.plan_rules.proofs.Simulation.Premises.{Room, no-premises}
 use Rattle.plan_rules.proofs.Simulation.Visits.{plan-sim}
@@ -45,43 +39,13 @@ use Rattle.cover.proofs.Demand3.{demand-3-of-rules}
 valid-few : (s : List ℕ) → Valid s → FewMembers (sheetOf s)
 valid-few s valid n r e = let limits = reference-limits s valid n r e in (limits .columns, limits .rows)
 
--- ---- questions 8 to 12: an outcome with number 0 passed each of them
-
-pub record Passed (S : Sheet) (cells : ℕ) (q : Query) (o k m : List ℕ) : Type 0 where
-  pub zoom : Yes (lt (fin false 0 (pos 0)) (q .zoom))
-  pub depth : q .depth ≤ maxDepth
-  pub planned : soundOutcome S cells q o k m
-      ≡ outcome (Planned (length (tapeOf S cells q))) (tapeOf S cells q ++ drop (length (tapeOf S cells q)) o) (zeroed (countsNamed cells (q .depth)) k) (zeroed (marksNamed cells (q .depth)) m)
-
--- an outcome with number 0 is no refusal
-unrefused : (b : Bool) (x : Outcome) (n : ℕ) (o k m : List ℕ) → (cond b x (outcome (NoRoom n) o k m)) .number ≡ 0 → cond b x (outcome (NoRoom n) o k m) ≡ x
-unrefused true x n o k m e = refl
-unrefused false x n o k m e = absurd (let y : ⊥ = omega arith in y)
-
--- question 12
-fitted : (t : List ℕ) (nk nm : ℕ) (o k m : List ℕ) → (delivered t nk nm o k m) .number ≡ 0
-    → delivered t nk nm o k m ≡ outcome (Planned (length t)) (t ++ drop (length t) o) (zeroed nk k) (zeroed nm m)
-unfolding delivered
-fitted t nk nm o k m e = unrefused (leb (length t) (length o)) _ _ _ _ _ e
-
-sound-passed : (S : Sheet) (cells : ℕ) (q : Query) (o k m : List ℕ) → (soundOutcome S cells q o k m) .number ≡ 0 → Passed S cells q o k m
-sound-passed S cells q o k m e =
-    let no-no = accepted-passed S cells q o k m e in
-    let asked = passed _ _ _ _ _ _ no-no in
-    let delivering = query-passed S cells q o k m no-no in
-    record {
-      zoom = subst Yes (sym (zoom-positive (q .zoom) (asked .zoom-ok))) tt;
-      depth = asked .depth-within;
-      planned = delivering ∙ fitted _ _ _ o k m (ap (λ (x : Outcome). x .number) (sym delivering) ∙ e);
-    }
-
 -- ---- the tape does not depend on the tag
 
 module _ (S : Sheet) (cells : ℕ) (q : Query) where
   abbrev SameTape : ScenePlan → Tagged → List (Unit {0} × Event) → Type 0
   SameTape s a b = tape a ≡ tape b
 
-  keeps : (ta : List Step) (tb : Unit {0}) (e : Event) → Unit {0} → (s : ScenePlan) → Room s e → (a : Tagged) (b : List (Unit {0} × Event)) → SameTape s a b → SameTape (after e s) (note ta e (s .«tape_end») a) (note tb e (s .«tape_end») b)
+  keeps : (ta : List Step) (tb : Unit {0}) (e : Event) → Unit {0} → (s : ScenePlan) → Room q s e → (a : Tagged) (b : List (Unit {0} × Event)) → SameTape s a b → SameTape (after e s) (note ta e (s .«tape_end») a) (note tb e (s .«tape_end») b)
   keeps ta tb e ok s room a b r = ap (λ (t : List ℕ). t ++ encode e) r
 
   abbrev pub marks : List ℕ
@@ -106,27 +70,22 @@ pub record Accepted (s : List ℕ) (q : Query) (o k m : List ℕ) : Type 0 where
   pub tape : IsTape s q (outcomeOf s q o k m) (eventsOf s q) o
 
 pub accepted-call : (s : List ℕ) (q : Query) (o k m : List ℕ) → (outcomeOf s q o k m) .number ≡ 0 → Accepted s q o k m
-unfolding outcomeOf
 accepted-call s q o k m e =
-    let a = by (checkSheet s) refl (sheet-numbered s) e in
-    record { few = a .0; zoom = a .1; depth = a .2; tape = a .3 }
-  where
-    by : (x : Checked) → checkSheet s ≡ x → Numbered x → (checkedOutcome x (sheetOf s) q o k m) .number ≡ 0
-        → FewMembers (sheetOf s) × Yes (lt (fin false 0 (pos 0)) (q .zoom)) × (q .depth ≤ maxDepth) × IsTape s q (checkedOutcome x (sheetOf s) q o k m) (eventsOf s q) o
-    by (checked.Refused n at) h (refused above) e = let none : n ≡ 0 = e in absurd (let y : ⊥ = omega arith in y)
-    by (checked.Sound c) h f e =
-        let S = sheetOf s in
-        let p = sound-passed S (c .cells) q o k m e in
-        let t = sym (events-tape S (c .cells) q) ∙ ap (λ (c : Counts). tape (events S (c .cells) q (counts S (c .cells) q) (marks S (c .cells) q))) (sound-counts s c h) in (
-          valid-few s (sound-valid s c h),
-          p .zoom,
-          p .depth,
-          record {
-            ran = refl;
-            tapeLength = ap (λ (x : Outcome). x .tapeLength) (p .planned) ∙ ap length t;
-            out = ap (λ (x : Outcome). x .out) (p .planned) ∙ ap (λ (b : List ℕ). b ++ drop (length b) o) t;
-          },
-        )
+    let S = sheetOf s in
+    let a = accepted s q o k m e in
+    let c = a .counts in
+    let asked = passed _ _ _ _ _ _ (a .passed) in
+    let t = sym (events-tape S (c .cells) q) ∙ ap (λ (c : Counts). tape (events S (c .cells) q (counts S (c .cells) q) (marks S (c .cells) q))) (sound-counts s c (a .sound)) in
+    record {
+      few = valid-few s (sound-valid s c (a .sound));
+      zoom = subst Yes (sym (zoom-positive (q .zoom) (asked .zoom-ok))) tt;
+      depth = asked .depth-within;
+      tape = record {
+        ran = refl;
+        tapeLength = ap (λ (x : Outcome). x .tapeLength) (a .planned) ∙ ap length t;
+        out = ap (λ (x : Outcome). x .out) (a .planned) ∙ ap (λ (b : List ℕ). b ++ drop (length b) o) t;
+      };
+    }
 
 pub demand-3 : Demand3
 demand-3 s q o k m square true-boxes view zoom e =

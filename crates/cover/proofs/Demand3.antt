@@ -17,7 +17,7 @@ use Rattle.cover.proofs.Cover.Claims.{Claims, by-record, by-proxy, by-d
 use Rattle.cover.proofs.Cover.Visits.{plan-claims}
 use Rattle.cover.proofs.EventFacts.{EventFact, skipped-fact, plan-facts, plan-listed}
 use Rattle.cover.proofs.Once.Visits.{plan-once, no-path-twice}
-use Rattle.cover.proofs.Tally.{plan-drops-when-full}
+use Rattle.cover.proofs.Tally.{plan-drops-when-full, plan-counts-dropped}
 
 -- a claim, with what the event says
 covers : (S : Sheet) (q : Query) → ZoomWithin (q .zoom) → (p : Path) (h : Item) (t : List Step) (e : Event) → Claims p h t e → EventFact S q t e → Covers S q p h (pathOf t) e
@@ -38,5 +38,6 @@ demand-3-of-rules S square true-boxes few q brought cells counts marks =
       listed = plan-listed S q few square cells (brought .depth) counts marks;
       once = no-path-twice tagged (plan-once S cells q counts marks);
       dropped = plan-drops-when-full S cells q counts marks;
+      counted = plan-counts-dropped S cells q counts marks;
       skipped = paths-all (λ (x : Path × Event). IsSkip (x .1) → Skipped S q (x .0) (x .1)) tagged (all-map _ (λ x s. skipped-fact S q (brought .zoom) (x .0) (x .1) s) facts);
     }

@@ -26,7 +26,7 @@ module _ (S : Sheet) (q : Query) (Stands : ℕ → List Step → PreparedSource 
   abbrev silent : Unit {0} → Event → ℕ → Unit {0} → Unit {0}
   silent t e at u = tt
 
-  keeps : (ta : List Step) (tb : Unit {0}) (e : Event) → Fact ta e → (s : ScenePlan) → Room s e → (a : Tagged) (b : Unit {0}) → AllFacts s a b → AllFacts (after e s) (note ta e (s .«tape_end») a) (silent tb e (s .«tape_end») b)
+  keeps : (ta : List Step) (tb : Unit {0}) (e : Event) → Fact ta e → (s : ScenePlan) → Room q s e → (a : Tagged) (b : Unit {0}) → AllFacts s a b → AllFacts (after e s) (note ta e (s .«tape_end») a) (silent tb e (s .«tape_end») b)
   keeps ta tb e ok s room a b r = and-then ok r
 
   pub every-event : ((u : ScenePlan) → Fact [] (totals u)) → Stands (q .depth) [] (Cell (q .root)) IDENTITY → (cells : ℕ) (w : World Tagged) → w .out ≡ []

@@ -8,7 +8,7 @@
 --     EveryEvent    a fact of every event, by the rules' induction
 --     EventFacts    what each event says is so
 --     Once          no path is listed twice
---     Tally         a proxy is dropped only when 100,000 are listed
+--     Tally         a proxy is dropped only when 100,000 are listed, and counted
 --     Demand3       the parts joined: the theorem about the rules
 --     AcceptedCall  what an accepted call gives, and the theorem about its bytes
 --     Manual        every record stands where the manual's placing along its path puts it

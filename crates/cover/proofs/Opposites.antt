@@ -25,17 +25,19 @@ use Rattle.exact.specs.Placement.{ExactPlacement, identity}
 use Rattle.exact.specs.Box.{IntegerBox, Holds, IsBox, boxOf}
 use Rattle.exact.specs.Screen.{isUnderOnePixel}
 use Rattle.exact.proofs.Floats.Reading.{integerOf-same}
+use Rattle.plan_rules.specs.declared.ScenePlan.{ScenePlan}
 use Rattle.plan_rules.specs.Limits.{maxLoadProxies}
 use Rattle.plan_rules.specs.declared.Reason.the-variants as reason
-use Rattle.plan_rules.specs.Event.{Event, batch, text, point, proxy, droppedProxy, skippedMember, skippedBatch, culledReference, culledBatch, detailCell, totals, batchAt, textAt, referenceAt, member, pointAt, emptyPlan}
+use Rattle.plan_rules.specs.Event.{Event, batch, text, point, proxy, droppedProxy, skippedMember, skippedBatch, culledReference, culledBatch, detailCell, totals, batchAt, textAt, referenceAt, member, pointAt, emptyPlan, saturate}
 use Rattle.plan_rules.specs.World.{Query}
 use Rattle.plan_rules.specs.Outcome.{Outcome}
 use Rattle.plan_rules.proofs.Cases.Opened.{opened}
 use Rattle.plan_rules.specs.Samples.{whole, spot, page, sheetOfLists, batchOf, textAtSpot, nodeOf, refer, cellOf, viewing}
+use Rattle.totals.specs.Proxies.{listedProxies, droppedProxies}
 use Rattle.paths.proofs.Square.{box-is}
 use Rattle.cover.specs.Path.{Path, Item, aBatch, aText, aPoint, memberAt, to-batch, to-text, to-reference, through-member, at-batch, at-text, at-point, step, LeadsTo}
 use Rattle.cover.specs.View.{textPosition, WithinBox, InView}
-use Rattle.cover.specs.Trace.{Trace, events, All, and-then, Any, here, before, text-record, listedProxies}
+use Rattle.cover.specs.Trace.{Trace, events, All, and-then, Any, here, before, text-record}
 use Rattle.geometry.specs.Bbox.{sourceIsDegenerate}
 use Rattle.screen.specs.Screen.{screenSize}
 use Rattle.cover.specs.Covered.{UnderOnePixel, Lists, lists-batch, lists-text, lists-point, IsSkip, batch-skip, Skipped, skipped-member, skipped-batch, DroppedWhenFull, Covers, Covered, listed, within-proxy, within-dropped-proxy, in-skipped}
@@ -111,7 +113,7 @@ abbrev Lost : (limit : ℕ) → Trace → Type 0
 Lost limit trace = LosesNothing labelled (see limit) trace → ⊥
 
 -- what the rules leave where no object may be listed: the cell's box
-limit-plan : events labelled 1 (see 0) (replicate 1 0) (replicate 3 0) ≡ ([], totals (record { «tape_end» = 42; texts = 0; «load_proxies» = 1; «detail_cells» = 0; «detail_objects» = 0; «culled_references» = 0; «skipped_subpixel_references» = 0; «culled_geometry_batches» = 0; «skipped_subpixel_geometry_batches» = 0 }))
+limit-plan : events labelled 1 (see 0) (replicate 1 0) (replicate 3 0) ≡ ([], totals (record { «tape_end» = 42; texts = 0; «load_proxies» = 1; «detail_cells» = 0; «detail_objects» = 0; «culled_references» = 0; «skipped_subpixel_references» = 0; «culled_geometry_batches» = 0; «skipped_subpixel_geometry_batches» = 0; «dropped_load_proxies» = 0 }))
     ∷ ([], proxy reason.OtherLimit 0 (page 100 100)) ∷ []
 unfolding opened
 limit-plan = refl
@@ -336,6 +338,11 @@ none-dropped : (n : ℕ) → DroppedWhenFull (replicate n elsewhere)
 none-dropped zero = tt
 none-dropped (suc n) = (λ why label box e. absurd (let z : _≡_ {A = ℕ} 0 1 = cc in let y : ⊥ = omega arith in y), none-dropped n)
 
+-- and counts none of the boxes before it
+none-dropped-elsewhere : (n : ℕ) → droppedProxies (replicate n elsewhere) ≡ 0
+none-dropped-elsewhere zero = refl
+none-dropped-elsewhere (suc n) = omega (arith, none-dropped-elsewhere n)
+
 invented-when-full : (n : ℕ) → n ≡ maxLoadProxies → DroppedWhenFull (invented n)
 invented-when-full n full = (λ why label box e. all-listed n ∙ full, none-dropped n)
 
@@ -349,7 +356,18 @@ abbrev newest : Trace → Event
 newest [] = detailCell
 newest (x ∷ l) = x .1
 
--- but it is not what the rules leave, as `IsTape` asks
+-- but the totals do not count it
+invented-uncounted : (n : ℕ) → Lost 0 (([], totals emptyPlan) ∷ invented n)
+unfolding emptyPlan saturate
+invented-uncounted n l =
+    let c = l .counted in
+    let said : totals emptyPlan ≡ totals (c .0) = c .1 in
+    let same : emptyPlan ≡ c .0 = cc in
+    let none : 0 ≡ c .0 .«dropped_load_proxies» = ap (λ (s : ScenePlan). s .«dropped_load_proxies») same in
+    let y : ⊥ = omega (arith, c .2, none-dropped-elsewhere n) in
+    y
+
+-- and it is not what the rules leave, as `IsTape` asks
 dropped-invented : (n : ℕ) → withoutTotals (events labelled 1 (see 0) (replicate 1 0) (replicate 3 0)) ≡ invented n → ⊥
 dropped-invented n e = let f = ap newest (sym (ap withoutTotals limit-plan) ∙ e) in let z : _≡_ {A = ℕ} 0 1 = cc in let y : ⊥ = omega arith in y
 

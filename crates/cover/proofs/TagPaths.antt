@@ -2,15 +2,17 @@
 -- Assumes nothing.
 use mathlib.Core.Path.{_≡_, refl, sym, ap, _∙_, subst}
 use mathlib.Core.List.{List, [], _∷_, _++_, append-assoc, append-nil}
+use mathlib.Core.Option.{Option}
 use Prim.Native.Nat.{ℕ, _+_}
 use Rattle.records.specs.declared.PreparedSource.{PreparedSource}
 use Rattle.records.specs.declared.PreparedSource.the-variants.{Cell}
 use Rattle.records.specs.declared.PreparedReference.{PreparedReference}
 use Rattle.abstract_sheet.specs.Sheet.{Sheet}
-use Rattle.plan_rules.specs.Event.{Event, Step, encode, amounts}
+use Rattle.plan_rules.specs.Event.{Event, Step, encode}
 use Rattle.plan_rules.specs.Tape.{tape}
+use Rattle.totals.specs.Proxies.{Load, loadOf, howMany}
 use Rattle.paths.specs.Path.{Path, Item, StepLeads, Leads, step, LeadsTo, Reaches, at-root, further}
-use Rattle.cover.specs.Trace.{pathOf, withPaths, All, none-left, and-then, Any, here, before, listedProxies}
+use Rattle.cover.specs.Trace.{pathOf, withPaths, All, none-left, and-then, Any, here, before}
 
 -- every event with its tag, the newest first
 abbrev pub Tagged : Type 0
@@ -79,9 +81,10 @@ pub paths-all : (F : Path × Event → Type 0) (l : Tagged) → All (λ (x : Lis
 paths-all F [] none-left = none-left
 paths-all F (x ∷ l) (and-then h k) = and-then h (paths-all F l k)
 
-pub paths-proxies : (l : Tagged) → listedProxies (withPaths l) ≡ listedProxies l
-paths-proxies [] = refl
-paths-proxies (x ∷ l) = ap (λ (n : ℕ). amounts (x .1) .«load_proxies» + n) (paths-proxies l)
+-- as many proxies of each sort
+pub paths-many : (counted : Option Load → ℕ) (l : Tagged) → howMany counted (withPaths l) ≡ howMany counted l
+paths-many counted [] = refl
+paths-many counted (x ∷ l) = ap (λ (n : ℕ). counted (loadOf (x .1)) + n) (paths-many counted l)
 
 pub paths-tape : (l : Tagged) → tape (withPaths l) ≡ tape l
 paths-tape [] = refl

@@ -21,12 +21,14 @@ use Rattle.exact.specs.Placement.{ExactPlacement, IsVector, IsPlacement}
 use Rattle.exact.specs.Box.{IntegerBox, IsBox, boxOf, place}
 use Rattle.exact.specs.Screen.{isUnderOnePixel}
 use Rattle.plan_rules.specs.Limits.{maxLoadProxies}
+use Rattle.plan_rules.specs.declared.ScenePlan.{ScenePlan}
 use Rattle.plan_rules.specs.declared.Reason.{Reason}
-use Rattle.plan_rules.specs.Event.{Event, batch, text, point, proxy, droppedProxy, skippedMember, skippedBatch, member}
+use Rattle.plan_rules.specs.Event.{Event, batch, text, point, proxy, droppedProxy, skippedMember, skippedBatch, totals, member, saturate}
 use Rattle.plan_rules.specs.World.{Query}
+use Rattle.totals.specs.Proxies.{listedProxies, droppedProxies}
 use Rattle.cover.specs.Path.{Path, Item, aBatch, aText, aPoint, memberAt, Reaches, LeadsTo}
 use Rattle.cover.specs.View.{placedBatch, textPosition, pointPosition, WithinBox}
-use Rattle.cover.specs.Trace.{Trace, Any, IsRecord, listedProxies}
+use Rattle.cover.specs.Trace.{Trace, Any, IsRecord}
 
 -- ---- listed
 
@@ -48,6 +50,11 @@ NoPathTwice (x ∷ l) = (IsRecord (x .1) → Any (λ (y : Path × Event). IsReco
 abbrev pub DroppedWhenFull : Trace → Type 0
 DroppedWhenFull [] = Unit {0}
 DroppedWhenFull (x ∷ l) = ((why : Reason) (label : ℕ) (box : WorldBBox) → x .1 ≡ droppedProxy why label box → listedProxies l ≡ maxLoadProxies) × DroppedWhenFull l
+
+-- Document 02, paper 8: the totals, which come last, count the dropped proxies, until the count stops.
+abbrev pub DroppedAreCounted : Trace → Type 0
+DroppedAreCounted [] = ⊥
+DroppedAreCounted (x ∷ l) = (s : ScenePlan) × (x .1 ≡ totals s) × (s .«dropped_load_proxies» ≡ saturate (droppedProxies l))
 
 -- ---- skipped
 

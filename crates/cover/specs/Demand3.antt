@@ -24,7 +24,7 @@ use Rattle.paths.specs.TrueBoxes.{TrueBoxes}
 use Rattle.cover.specs.Path.{Path, Item, LeadsTo}
 use Rattle.cover.specs.View.{WholeView, InView, Shown}
 use Rattle.cover.specs.Trace.{Trace, events, All, IsRecord}
-use Rattle.cover.specs.Covered.{NoPathTwice, DroppedWhenFull, Covered, ListsItsPath, IsSkip, Skipped}
+use Rattle.cover.specs.Covered.{NoPathTwice, DroppedWhenFull, DroppedAreCounted, Covered, ListsItsPath, IsSkip, Skipped}
 
 -- ---- a plan that loses nothing, by its events
 
@@ -37,6 +37,8 @@ pub record LosesNothing (S : Sheet) (q : Query) (trace : Trace) : Type 0 where
   pub once : NoPathTwice trace
   -- "dropped because 100,000 were listed already"
   pub dropped : DroppedWhenFull trace
+  -- document 02, paper 8: and they are those counted
+  pub counted : DroppedAreCounted trace
   -- "skipped as under one pixel both ways"
   pub skipped : All (λ (x : Path × Event). IsSkip (x .1) → Skipped S q (x .0) (x .1)) trace
 

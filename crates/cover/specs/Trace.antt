@@ -2,11 +2,11 @@
 -- "Demand 3 reads the plan that demand 2 defines": these are the events of the same rules, run with the path as the tag; their records are the tape.
 -- Definitions only; rests on the rules. Assumes nothing.
 use mathlib.Core.List.{List, [], _∷_, _++_}
-use Prim.Native.Nat.{ℕ, _+_}
+use Prim.Native.Nat.{ℕ}
 use Rattle.geometry.specs.declared.placement.DVec2.{DVec2}
 use Rattle.geometry.specs.declared.placement.Placement.{Placement}
 use Rattle.abstract_sheet.specs.Sheet.{Sheet}
-use Rattle.plan_rules.specs.Event.{Event, batch, text, point, Step, emptyPlan, amounts}
+use Rattle.plan_rules.specs.Event.{Event, batch, text, point, Step, emptyPlan}
 use Rattle.plan_rules.specs.World.{Query, world}
 use Rattle.plan_rules.specs.Plan.{plan}
 use Rattle.plan_rules.specs.Tape.{note}
@@ -44,15 +44,10 @@ pub data Any {A : Type 0} (Q : A → Type 0) : List A → Type 0 where
   here : {a : A} {l : List A} → Q a → Any Q (a ∷ l)
   before : {a : A} {l : List A} → Any Q l → Any Q (a ∷ l)
 
--- ---- what is counted of them
+-- ---- records
 
 -- "every record of kinds 11 to 13"
 pub data IsRecord : Event → Type 0 where
   batch-record : {n : ℕ} {p : Placement} → IsRecord (batch n p)
   text-record : {n : ℕ} {v : DVec2} → IsRecord (text n v)
   point-record : {layer type : ℕ} {v : DVec2} → IsRecord (point layer type v)
-
--- how many proxies are listed
-abbrev pub listedProxies : {P : Type 0} → List (P × Event) → ℕ
-listedProxies [] = 0
-listedProxies (x ∷ l) = amounts (x .1) .«load_proxies» + listedProxies l

@@ -11,7 +11,8 @@ ghost use mathlib.Core.Bool.{Bool};
 ghost use mathlib.Core.List.{List};
 ghost use Prim.Native.Nat.{ℕ};
 ghost use Rattle.geometry.specs.declared.bbox.WorldBBox.{WorldBBox};
-ghost use Rattle.plan_rules.specs.Event.{batch, text, point, proxy, skippedMember, skippedBatch, culledReference, culledBatch, detailCell, totals};
+ghost use Rattle.plan_rules.specs.declared.Reason.{Reason};
+ghost use Rattle.plan_rules.specs.Event.{batch, text, point, proxy, droppedProxy, skippedMember, skippedBatch, culledReference, culledBatch, detailCell, totals};
 ghost use Rattle.plan_rules.specs.World.{world};
 ghost use Rattle.plan_rules.specs.OnTape.{Leaves, say};
 
@@ -109,6 +110,15 @@ pub fn count_skipped_batch(plan: ScenePlan) -> ScenePlan
         plan.skipped_subpixel_geometry_batches,
         1,
     );
+    next
+}
+
+// The plan does not say why, nor which.
+pub fn count_dropped_proxy(plan: ScenePlan) -> ScenePlan
+    ensures { λ r. ⌜ ((why : Reason) (label : ℕ) (box : WorldBBox) (o k m : List ℕ) → world r o k m ≡ say (droppedProxy why label box) (world plan o k m)) ⌝ }
+{
+    let mut next = plan;
+    next.dropped_load_proxies = saturating_add(plan.dropped_load_proxies, 1);
     next
 }
 

@@ -1,4 +1,5 @@
-// Proxies: `add_load`. A full list drops further proxies silently.
+// Proxies: `add_load`. A full list drops further proxies; the totals say how many.
+use crate::counted::count_dropped_proxy;
 use crate::counted::list_proxy;
 use geometry::bbox::Bounds;
 use geometry::bbox::WorldBBox;
@@ -22,7 +23,7 @@ pub fn add_load(
     if plan.load_proxies < MAX_LOAD_PROXIES {
         return list_proxy(out, plan, why, label, bbox);
     }
-    plan
+    count_dropped_proxy(plan)
 }
 
 // `if let Some(bbox) = world_bbox { self.add_load(bbox, ..) }`

@@ -5,9 +5,9 @@ use mathlib.Core.Logic.{_⊎_, inl, inr}
 use Prim.Native.Nat.{ℕ, zero, suc, _+_, _/_, _%_, _^_, _≤_, _<_}
 use native.Mathlib.Nat.{zero-add, add-zero, add-suc, suc-add, mod-eq-of-lt, le-of-suc-le-suc, not-suc-le-zero}
 use native.Mathlib.Omega.{arith}
-use mathlib.Core.List.{List, [], _∷_}
+use mathlib.Core.List.{List, [], _∷_, _++_}
 use lib.ListN.{length, getD, set, length-set}
-use lib.Seq.{sets, getD-set-same, getD-set-other}
+use lib.Seq.{sets, getD-set-same, getD-set-other, getD-append-add, getD-take, take-at}
 use lib.Dec.{T}
 use lib.Ieee.{Float, binary64, fits, ofBits, toBits}
 use lib.Ieee.Bits.{ofBits-toBits, toBits-lt}
@@ -65,6 +65,17 @@ uintAt-written k n d at h =
     let l : length (uintBytes k n) ≡ k = length-uintBytes k n in
     uintAt-same k (sets d at (uintBytes k n)) (uintBytes k n) at 0
     (λ i b. getD-sets-same d (uintBytes k n) at i (omega arith) (omega arith) ∙ ap (λ (m : ℕ). getD (uintBytes k n) m 0) (sym (zero-add i)))
+    ∙ uintAt-uintBytes k n
+
+-- a field that stands between other bytes
+pub uintAt-appended : (k n : ℕ) (p r : List ℕ) → uintAt k (p ++ (uintBytes k n ++ r)) (length p) ≡ n % 256 ^ k
+uintAt-appended k n p r =
+    let u = uintBytes k n in
+    uintAt-same k (p ++ (u ++ r)) u (length p) 0
+    (λ i b. getD-append-add p (u ++ r) i 0
+    ∙ sym (getD-take k (u ++ r) i 0 b)
+    ∙ ap (λ (l : List ℕ). getD l i 0) (take-at u r k (length-uintBytes k n))
+    ∙ ap (λ (m : ℕ). getD u m 0) (sym (zero-add i)))
     ∙ uintAt-uintBytes k n
 
 -- every float that an f64 holds, `nan` among them

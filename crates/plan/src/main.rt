@@ -3,7 +3,7 @@
 //     text NUMBER and two floats         a text, with its position
 //     point LAYER TYPE and two floats    a node point, with its position
 //     proxy LABEL and four floats        a box, with the number of its cell or `none`
-//     totals and six numbers             the totals, last
+//     totals and seven numbers           the totals, last
 // or one line:
 //     refused NUMBER OFFSET              the first no
 //     no query                           the first record is no whole query
@@ -52,7 +52,7 @@ fn lend(buffer: &mut [u8], tape: &mut [u8]) {
 
 // The tape is enough for every plan.
 fn lend_tape(buffer: &mut [u8]) {
-    let mut tape = [0u8; 5360054];
+    let mut tape = [0u8; 5360062];
     lend(buffer, &mut tape);
 }
 

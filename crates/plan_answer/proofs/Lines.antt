@@ -15,7 +15,7 @@ pub text-line : lineOf (encode (text 0 (spot 10 20))) ≡ ascii "text 0 40240000
 unfolding openedText opened encode
 text-line = refl
 
-pub totals-line : lineOf (encode (totals (scenePlan 80 1 0 1 1 2 3 4 5))) ≡ ascii "totals 1 1 2 3 4 5\n"
+pub totals-line : lineOf (encode (totals (scenePlan 80 1 0 1 1 2 3 4 5 6))) ≡ ascii "totals 1 1 2 3 4 5 6\n"
 unfolding openedText opened encode
 totals-line = refl
 

@@ -27,7 +27,7 @@ use Rattle.plan_rules.proofs.OutcomeTheorem.{query-refused, query-passed}
 
 -- ---- a tape is not empty: it ends with its totals
 
-length-totals : (s : ScenePlan) → length (encode (totals s)) ≡ 54
+length-totals : (s : ScenePlan) → length (encode (totals s)) ≡ 62
 unfolding encode
 length-totals s = length-recordBytes (fieldsOf (totals s))
 

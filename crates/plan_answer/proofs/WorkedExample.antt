@@ -23,12 +23,12 @@ workedQuery =
     recordBytes
     (uint 4 54 ∷ uint 2 20 ∷ uint 4 0 ∷ uint 4 1 ∷ f64 (whole 0) ∷ f64 (whole 0) ∷ f64 (whole 100) ∷ f64 (whole 100) ∷ f64 (whole 1) ∷ [])
 
--- lent: no hidden layer, a tape of 80 bytes, a count and three marks
+-- lent: no hidden layer, a tape of 88 bytes, a count and three marks
 abbrev replied : List ℕ → Reply
-replied s = replyOf s [] [] (replicate 80 7) (8 ∷ []) (9 ∷ 9 ∷ 9 ∷ [])
+replied s = replyOf s [] [] (replicate 88 7) (8 ∷ []) (9 ∷ 9 ∷ 9 ∷ [])
 
 -- "All it prints"
-pub worked-example : (replied (workedQuery ++ workedSheet)) .text ≡ ascii "text 0 4024000000000000 4034000000000000\ntotals 1 1 0 0 0 0\n"
+pub worked-example : (replied (workedQuery ++ workedSheet)) .text ≡ ascii "text 0 4024000000000000 4034000000000000\ntotals 1 1 0 0 0 0 0\n"
 unfolding openedQuery openedText openedSheet opened encode workedText workedCell workedSheet outcomeText replyOfQuery replyOf
 worked-example = refl
 

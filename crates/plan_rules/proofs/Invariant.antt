@@ -1,6 +1,7 @@
--- What every event keeps, every visit and every plan keeps: the induction of `Simulation` for one run.
+-- What every event keeps, every visit and every plan keeps: the induction of `Simulation` for one run. Last, what every event but the totals keeps.
 -- Assumes nothing.
 use mathlib.Core.Path.{_≡_}
+use mathlib.Core.Bool.{false}
 use mathlib.Core.Option.{some}
 use Prim.Native.Nat.{ℕ, suc, _<_}
 use Rattle.geometry.specs.declared.bbox.WorldBBox.{WorldBBox}
@@ -17,9 +18,9 @@ use Rattle.plan_rules.specs.Event.{Event, Step, member, after}
 use Rattle.plan_rules.specs.World.{Query, World, Flow, ending}
 use Rattle.plan_rules.specs.Push.{pushPoint}
 use Rattle.plan_rules.specs.Visit.{VisitReference, VisitSource, geometryStep, textStep, nodeStep, referenceStep, visitSourceWith, memberStep, columnStep, visitReference}
-use Rattle.plan_rules.specs.Plan.{plan}
+use Rattle.plan_rules.specs.Plan.{visitRoot, plan}
 use Rattle.plan_rules.proofs.Simulation.{Keeps, KeepsFlow, the-relation, ending-sim}
-use Rattle.plan_rules.proofs.Simulation.Premises.{Room, no-premises}
+use Rattle.plan_rules.proofs.Simulation.Premises.{Room, isTotals, visit-premises, no-premises}
 use Rattle.plan_rules.proofs.Simulation.Visits as Visits
 
 -- the second run stands nowhere and sends nothing
@@ -30,7 +31,7 @@ abbrev silent : Unit {0} → Event → ℕ → Unit {0} → Unit {0}
 silent t e at u = tt
 
 module _ {P A : Type 0} (enter : Step → P → P) (emit : P → Event → ℕ → A → A) (S : Sheet) (cells : ℕ) (q : Query) (I : ScenePlan → A → Type 0)
-    (keeps : (t : P) (e : Event) (s : ScenePlan) → Room s e → (a : A) → I s a → I (after e s) (emit t e (s .«tape_end») a)) where
+    (keeps : (t : P) (e : Event) (s : ScenePlan) → Room q s e → (a : A) → I s a → I (after e s) (emit t e (s .«tape_end») a)) where
   -- the invariant of a world
   abbrev pub Holds : World A → Type 0
   Holds w = I (w .state) (w .out)
@@ -44,7 +45,7 @@ module _ {P A : Type 0} (enter : Step → P → P) (emit : P → Event → ℕ �
   abbrev Anything : P → Event → Type 0
   Anything t e = Unit {0}
 
-  both : (ta : P) (tb : Unit {0}) (e : Event) → Unit {0} → (s : ScenePlan) → Room s e → (a : A) (b : Unit {0}) → R s a b → R (after e s) (emit ta e (s .«tape_end») a) (silent tb e (s .«tape_end») b)
+  both : (ta : P) (tb : Unit {0}) (e : Event) → Unit {0} → (s : ScenePlan) → Room q s e → (a : A) (b : Unit {0}) → R s a b → R (after e s) (emit ta e (s .«tape_end») a) (silent tb e (s .«tape_end») b)
   both ta tb e ok s room a b r = keeps ta e s room a r
 
   one : (f : World A → World A) (g : World (Unit {0}) → World (Unit {0})) → Keeps R f g → (w : World A) → Holds w → Holds (f w)
@@ -119,3 +120,19 @@ module _ {P A : Type 0} (enter : Step → P → P) (emit : P → Event → ℕ �
   plan-kept t =
       one (plan enter emit S cells q t) (plan nowhere silent S cells q tt)
       (Visits.plan-sim enter nowhere emit silent S cells q R Anywhere Anything (no-premises enter S q) both t tt (λ u. tt) tt)
+
+-- ---- what every event but the totals keeps, all visits of a plan keep
+
+module _ {P A : Type 0} (enter : Step → P → P) (emit : P → Event → ℕ → A → A) (S : Sheet) (cells : ℕ) (q : Query) (I : ScenePlan → A → Type 0)
+    (keeps : (t : P) (e : Event) → isTotals e ≡ false → (s : ScenePlan) → Room q s e → (a : A) → I s a → I (after e s) (emit t e (s .«tape_end») a)) where
+  abbrev RootR : ScenePlan → A → Unit {0} → Type 0
+  RootR s a b = I s a
+
+  visit-both : (ta : P) (tb : Unit {0}) (e : Event) → isTotals e ≡ false → (s : ScenePlan) → Room q s e → (a : A) (b : Unit {0}) → RootR s a b → RootR (after e s) (emit ta e (s .«tape_end») a) (silent tb e (s .«tape_end») b)
+  visit-both ta tb e ok s room a b r = keeps ta e ok s room a r
+
+  pub root-kept : (t : P) (w : World A) → I (w .state) (w .out) → let v = visitRoot enter emit S cells q (q .depth) t w in I (v .state) (v .out)
+  root-kept t w h =
+      the-relation RootR
+      (Visits.root-sim enter nowhere emit silent S cells q RootR (λ d t s p. Unit {0}) (λ t e. isTotals e ≡ false) (visit-premises enter S q (λ e. isTotals e ≡ false) (λ e z. z)) visit-both (q .depth) t tt tt
+      (w .state) (w .out) tt (w .counts) (w .marks) h)

@@ -5,6 +5,7 @@
 --     TapeTheorem       the bytes are the events' records
 --     Questions         what a query has that passes questions 8 to 11
 --     OutcomeTheorem    the outcome by code path, and by the run that writes
+--     Accepted          what an accepted call passed, and what it leaves
 --     Paths             the rules by code path, for proofs about code
 --     Memory            the lent scratch is the Rust's memory
 --     UnusedSites       document 02, paper 3
@@ -16,6 +17,7 @@ pub mod Invariant
 pub mod TapeTheorem
 pub mod Questions
 pub mod OutcomeTheorem
+pub mod Accepted
 pub mod Paths
 pub mod Memory
 pub mod UnusedSites

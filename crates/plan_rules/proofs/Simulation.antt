@@ -31,11 +31,19 @@ module _ {A B : Type 0} (R : ScenePlan → A → B → Type 0) where
 
   -- ---- what two steps keep
 
+  -- from one state
+  abbrev pub KeepsAt : ScenePlan → (World A → World A) → (World B → World B) → Type 0
+  KeepsAt s f g = (a : A) (b : B) (k m : List ℕ) → R s a b → Related R (f (world s a k m)) (g (world s b k m))
+
+  abbrev pub KeepsFlowAt : ScenePlan → (World A → Flow A) → (World B → Flow B) → Type 0
+  KeepsFlowAt s f g = (a : A) (b : B) (k m : List ℕ) → R s a b → RelatedFlow R (f (world s a k m)) (g (world s b k m))
+
+  -- from any state
   abbrev pub Keeps : (World A → World A) → (World B → World B) → Type 0
-  Keeps f g = (s : ScenePlan) (a : A) (b : B) (k m : List ℕ) → R s a b → Related R (f (world s a k m)) (g (world s b k m))
+  Keeps f g = (s : ScenePlan) → KeepsAt s f g
 
   abbrev pub KeepsFlow : (World A → Flow A) → (World B → Flow B) → Type 0
-  KeepsFlow f g = (s : ScenePlan) (a : A) (b : B) (k m : List ℕ) → R s a b → RelatedFlow R (f (world s a k m)) (g (world s b k m))
+  KeepsFlow f g = (s : ScenePlan) → KeepsFlowAt s f g
 
   pub apply-sim : {w : World A} {v : World B} (f : World A → World A) (g : World B → World B) → Keeps f g → Related R w v → Related R (f w) (g v)
   apply-sim f g h (related {s} {a} {b} {k} {m} r) = h s a b k m r

@@ -67,9 +67,9 @@ module _ {P : Type 0} (o : List ℕ) where
     pub same-length : length b ≡ length o
     pub written : length o < maxTotal → length (tape l) ≤ length o → b ≡ sets o 0 (tape l)
 
-  keeps : (ta : P) (tb : Unit {0}) (e : Event) → Unit {0} → (s : ScenePlan) → Room s e → (l : List (P × Event)) (b : List ℕ) → Run s l b → Run (after e s) (note ta e (s .«tape_end») l) (onTape tb e (s .«tape_end») b)
+  keeps : (q : Query) (ta : P) (tb : Unit {0}) (e : Event) → Unit {0} → (s : ScenePlan) → Room q s e → (l : List (P × Event)) (b : List ℕ) → Run s l b → Run (after e s) (note ta e (s .«tape_end») l) (onTape tb e (s .«tape_end») b)
   unfolding after onTape
-  keeps ta tb e ok s room l b r =
+  keeps q ta tb e ok s room l b r =
       let longer : length (tape l ++ encode e) ≡ length (tape l) + amounts e .«tape_end» = length-append (tape l) (encode e) ∙ ap (λ (n : ℕ). length (tape l) + n) (encode-length e) in
       record {
         ends = ap (λ (n : ℕ). n ⊞ amounts e .«tape_end») (r .ends) ∙ saturate-add (length (tape l)) (amounts e .«tape_end») ∙ ap saturate (sym longer);
@@ -91,7 +91,7 @@ module _ {P : Type 0} (o : List ℕ) where
   pub one-run : (enter : Step → P → P) (S : Sheet) (cells : ℕ) (q : Query) (t : P) (k m : List ℕ) → Related Run (plan enter note S cells q t (world emptyPlan [] k m)) (plan noTag onTape S cells q tt (world emptyPlan o k m))
   unfolding emptyPlan saturate
   one-run enter S cells q t k m =
-      plan-sim enter noTag note onTape S cells q Run (λ d t s p. Unit {0}) (λ t e. Unit {0}) (no-premises enter S q) keeps t tt (λ u. tt) tt emptyPlan [] o k m
+      plan-sim enter noTag note onTape S cells q Run (λ d t s p. Unit {0}) (λ t e. Unit {0}) (no-premises enter S q) (keeps q) t tt (λ u. tt) tt emptyPlan [] o k m
       (record { ends = refl; same-length = refl; written = λ small fits. refl })
 
 -- ---- the theorem, for the events with any tag

@@ -66,6 +66,7 @@ fieldsOf (totals s) =
     ∷ uint 8 (s .«skipped_subpixel_references»)
     ∷ uint 8 (s .«culled_geometry_batches»)
     ∷ uint 8 (s .«skipped_subpixel_geometry_batches»)
+    ∷ uint 8 (s .«dropped_load_proxies»)
     ∷ [])
 
 unfoldable pub encode : Event → List ℕ
@@ -89,8 +90,8 @@ abbrev pub _⊠_ : ℕ → ℕ → ℕ
 x ⊠ y = saturate (x * y)
 
 -- the fields of `ScenePlan` in their order
-abbrev pub scenePlan : ℕ → ℕ → ℕ → ℕ → ℕ → ℕ → ℕ → ℕ → ℕ → ScenePlan
-scenePlan end texts proxies cells objects culledReferences skippedReferences culledBatches skippedBatches = record {
+abbrev pub scenePlan : ℕ → ℕ → ℕ → ℕ → ℕ → ℕ → ℕ → ℕ → ℕ → ℕ → ScenePlan
+scenePlan end texts proxies cells objects culledReferences skippedReferences culledBatches skippedBatches droppedProxies = record {
   «tape_end» = end;
   texts = texts;
   «load_proxies» = proxies;
@@ -100,15 +101,16 @@ scenePlan end texts proxies cells objects culledReferences skippedReferences cul
   «skipped_subpixel_references» = skippedReferences;
   «culled_geometry_batches» = culledBatches;
   «skipped_subpixel_geometry_batches» = skippedBatches;
+  «dropped_load_proxies» = droppedProxies;
 }
 
 -- `ScenePlan::default()`
 unfoldable pub emptyPlan : ScenePlan
-emptyPlan = scenePlan 0 0 0 0 0 0 0 0 0
+emptyPlan = scenePlan 0 0 0 0 0 0 0 0 0 0
 
 -- the totals that an event may count
 pub data Total : Type 0 where
-  texts proxies cells objects culledReferences skippedReferences culledBatches skippedBatches : Total
+  texts proxies cells objects culledReferences skippedReferences culledBatches skippedBatches droppedProxies : Total
 
 -- by its place among them
 abbrev column : Total → ℕ
@@ -120,14 +122,16 @@ column culledReferences = 4
 column skippedReferences = 5
 column culledBatches = 6
 column skippedBatches = 7
+column droppedProxies = 8
 
--- the totals in which an event counts one. "Objects equal listed batches, texts and points together."
+-- The totals in which an event counts one. "Objects equal listed batches, texts and points together."
+-- Document 02, paper 8: "The totals gain a seventh count: proxies that met a full list."
 abbrev pub countedIn : Event → List Total
 countedIn (batch number placement) = objects ∷ []
 countedIn (text number position) = texts ∷ objects ∷ []
 countedIn (point layer type position) = objects ∷ []
 countedIn (proxy why label box) = proxies ∷ []
-countedIn (droppedProxy why label box) = []
+countedIn (droppedProxy why label box) = droppedProxies ∷ []
 countedIn (skippedMember degenerate box) = skippedReferences ∷ []
 countedIn (skippedBatch box) = skippedBatches ∷ []
 countedIn culledReference = culledReferences ∷ []
@@ -152,6 +156,7 @@ amounts e = record {
   «skipped_subpixel_references» = times skippedReferences (countedIn e);
   «culled_geometry_batches» = times culledBatches (countedIn e);
   «skipped_subpixel_geometry_batches» = times skippedBatches (countedIn e);
+  «dropped_load_proxies» = times droppedProxies (countedIn e);
 }
 
 -- the state after an event
@@ -167,3 +172,4 @@ after e s =
     (s .«skipped_subpixel_references» ⊞ amounts e .«skipped_subpixel_references»)
     (s .«culled_geometry_batches» ⊞ amounts e .«culled_geometry_batches»)
     (s .«skipped_subpixel_geometry_batches» ⊞ amounts e .«skipped_subpixel_geometry_batches»)
+    (s .«dropped_load_proxies» ⊞ amounts e .«dropped_load_proxies»)

@@ -4,7 +4,7 @@
 use check_sheet::Counts;
 use geometry::bbox::WorldBBox;
 
-// The tape's end, the texts and proxies listed so far, and the six totals of `SceneStats` in its field order.
+// The tape's end, the texts and proxies listed so far, the six totals of `SceneStats` in its field order, and the proxies that met a full list.
 // The limits are tested on these numbers, so one struct stands for the Rust's `ScenePlan` with its lists' lengths.
 pub struct ScenePlan {
     pub tape_end: u64,
@@ -16,6 +16,7 @@ pub struct ScenePlan {
     pub skipped_subpixel_references: u64,
     pub culled_geometry_batches: u64,
     pub skipped_subpixel_geometry_batches: u64,
+    pub dropped_load_proxies: u64,
 }
 
 // "A query: root cell 4, depth 4, view 4 f, zoom f": the hidden layers stand in a slice beside it.

@@ -75,7 +75,7 @@ abbrev pub proxyLine : List ℕ → List ℕ
 proxyLine s = ascii "proxy" ++ labelText (uintAt 4 s headWidth) ++ eachField float 4 s 10 ++ ascii "\n"
 
 abbrev pub totalsLine : List ℕ → List ℕ
-totalsLine s = ascii "totals" ++ eachField number 6 s headWidth ++ ascii "\n"
+totalsLine s = ascii "totals" ++ eachField number 7 s headWidth ++ ascii "\n"
 
 -- the line of a record by its kind; no other kind stands on a tape
 unfoldable pub lineOf : List ℕ → List ℕ

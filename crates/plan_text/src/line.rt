@@ -56,7 +56,7 @@ fn put_totals(text: &mut [u8], at: usize, bytes: &[u8]) -> usize
     ensures { λ r. ⌜ Written lineRoom (now (text .entry)) at (totalsLine (now (bytes .entry))) (now (text .exit)) r ⌝ }
 {
     let word = put_word(text, at, b"totals");
-    let totals = put_numbers(text, word, bytes, fields::HEAD, 6);
+    let totals = put_numbers(text, word, bytes, fields::HEAD, 7);
     put_word(text, totals, b"\n")
 }
 

@@ -3,10 +3,12 @@
 --     Swept          the visits on scratch that is zeroed before and after
 --     WithFinder     the outcome of a call with a finder: question 13
 --     LosesNothing   demands 2 and 3 of a call: what its proofs state
+--     Totals         paper 8 of a call: what its proofs state
 --     Agreement      a call with a finder and one without: what its proofs state
 -- Definitions and statements. Assumes nothing.
 pub mod Answered
 pub mod Swept
 pub mod WithFinder
 pub mod LosesNothing
+pub mod Totals
 pub mod Agreement

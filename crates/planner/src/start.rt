@@ -26,5 +26,6 @@ pub fn empty_plan() -> ScenePlan
         skipped_subpixel_references: 0,
         culled_geometry_batches: 0,
         skipped_subpixel_geometry_batches: 0,
+        dropped_load_proxies: 0,
     }
 }

@@ -23,7 +23,7 @@ const POINT_SIZE: u32 = 26;
 
 const PROXY_SIZE: u32 = 42;
 
-const TOTALS_SIZE: u32 = 54;
+const TOTALS_SIZE: u32 = 62;
 
 // Whether `size` bytes from `at` on lie within `length`. No sum can wrap.
 fn has_room(length: usize, at: u64, size: u32) -> bool
@@ -150,9 +150,10 @@ fn put_totals(out: &mut [u8], at: usize, plan: ScenePlan)
     fields::put_u64(out, at + 30, plan.skipped_subpixel_references);
     fields::put_u64(out, at + 38, plan.culled_geometry_batches);
     fields::put_u64(out, at + 46, plan.skipped_subpixel_geometry_batches);
+    fields::put_u64(out, at + 54, plan.dropped_load_proxies);
 }
 
-// Kind 15: the six totals of `SceneStats` in its field order.
+// Kind 15: the six totals of `SceneStats` in its field order, and the dropped proxies.
 pub fn write_totals(out: &mut [u8], at: u64, plan: ScenePlan) -> u64
     ensures { λ r. ⌜ Written (totals plan) (now (out .entry)) at (now (out .exit)) r ⌝ }
 {

@@ -68,16 +68,16 @@ module _ (S : Sheet) (cells : ℕ) (q : Query) where
     reference-halts i w = cond-case (OnHalt Q) (detailBudgetExhausted q (w .state)) _ _ (λ _. full _ w) (λ _. tt)
 
     geometry-keeps : (i : ℕ) → i < c .geometries .count → Keeps Q (geometryStep enter note S cells q t n c p box i)
-    geometry-keeps = geometry-step-kept enter note S cells q (Grown g h) (grown g h) d t n c p box e
+    geometry-keeps = geometry-step-kept enter note S cells q (Grown g h) (grown g h q) d t n c p box e
 
     text-keeps : (i : ℕ) → i < c .texts .count → Keeps Q (textStep enter note S cells q t n c p box i)
-    text-keeps = text-step-kept enter note S cells q (Grown g h) (grown g h) d t n c p box e
+    text-keeps = text-step-kept enter note S cells q (Grown g h) (grown g h q) d t n c p box e
 
     node-keeps : (i : ℕ) → i < c .nodes .count → Keeps Q (nodeStep enter note S cells q t n c p box i)
-    node-keeps = node-step-kept enter note S cells q (Grown g h) (grown g h) d t n c p box e
+    node-keeps = node-step-kept enter note S cells q (Grown g h) (grown g h q) d t n c p box e
 
     reference-keeps : (i : ℕ) → i < c .references .count → Keeps Q (referenceStep enter note S cells q t n c p box (visits d) i)
-    reference-keeps = reference-step-kept enter note S cells q (Grown g h) (grown g h) d t n c p box e
+    reference-keeps = reference-step-kept enter note S cells q (Grown g h) (grown g h q) d t n c p box e
 
     abbrev geometries : World Tagged → Flow Tagged
     geometries w = each (geometryStep enter note S cells q t n c p box) (c .geometries .count) 0 w

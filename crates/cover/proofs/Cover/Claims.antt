@@ -16,7 +16,7 @@ use Rattle.plan_rules.specs.declared.ScenePlan.{ScenePlan}
 use Rattle.plan_rules.specs.Limits.{maxLoadProxies}
 use Rattle.plan_rules.specs.declared.Reason.{Reason}
 use Rattle.plan_rules.specs.Event.{Event, proxy, droppedProxy, Step, after}
-use Rattle.plan_rules.specs.World.{World}
+use Rattle.plan_rules.specs.World.{Query, World}
 use Rattle.plan_rules.specs.Push.{say, addLoad, addLoadIfBoxed}
 use Rattle.plan_rules.specs.Tape.{note}
 use Rattle.plan_rules.proofs.Simulation.Premises.{Room}
@@ -61,8 +61,8 @@ module _ (p : Path) (h : Item) where
   abbrev pub Grown : ScenePlan → Tagged → Type 0
   Grown s l = Any (λ (x : List Step × Event). Claims p h (x .0) (x .1)) l
 
-  pub grown : (t : List Step) (e : Event) (s : ScenePlan) → Room s e → (l : Tagged) → Grown s l → Grown (after e s) (note t e (s .«tape_end») l)
-  grown t e s room l k = before k
+  pub grown : (q : Query) (t : List Step) (e : Event) (s : ScenePlan) → Room q s e → (l : Tagged) → Grown s l → Grown (after e s) (note t e (s .«tape_end») l)
+  grown q t e s room l k = before k
 
   -- ---- single events
 

@@ -127,7 +127,7 @@ module _ (S : Sheet) (cells : ℕ) (q : Query) (whole : WholeView (q .view)) (sq
         (cond-case (OnGo (Claimed g h)) (hides q (x .layer) (x .«node_type»)) _ _
         (λ y. absurd (lacks-not-contains (q .hidden) _ shown y))
         (λ _. each-goes (Claimed g h) (pushPoint enter note S q t p x) (x .count) j j<
-        (point-kept enter note S cells q (Grown g h) (grown g h) t n p x e)
+        (point-kept enter note S cells q (Grown g h) (grown g h q) t n p x e)
         (point-claims t n x j e j< v) (x .count) 0 (omega arith) (omega arith) w))
 
     -- ---- whatever path leads to the item

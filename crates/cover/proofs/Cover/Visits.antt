@@ -128,8 +128,8 @@ module _ (S : Sheet) (cells : ℕ) (q : Query) (whole : WholeView (q .view)) (fe
       (reference-claims S cells q whole few sq true-boxes (suc d) l (omega arith) t n r (k .4) p T i level x y (k .5) (k .6) rest h v sb (o .1) (o .2) visit
       (λ _. columns-claim S cells q whole few sq true-boxes (suc d) l (omega arith) t n r (k .4) p T i level x y (k .5) (k .6) rest h v sb (o .1) (o .2) (omega arith) visit
       (source-claims d (suc l) (omega arith) (reference-visit-claims d (suc l) (omega arith)) (member x y ∷ t) (r .source) (p · gridMemberTransform (r .grid) x y) M (m .0) (m .1) rest h (k .8) v shown)
-      (column-kept enter note S cells q (Grown G h) (grown G h) d t n r p sb worldBox (k .4) (o .1))
-      (member-kept enter note S cells q (Grown G h) (grown G h) d t n r p sb worldBox (k .4) (o .1))) w)
+      (column-kept enter note S cells q (Grown G h) (grown G h q) d t n r p sb worldBox (k .4) (o .1))
+      (member-kept enter note S cells q (Grown G h) (grown G h q) d t n r p sb worldBox (k .4) (o .1))) w)
 
   -- ---- the plan
 

@@ -193,7 +193,7 @@ view-square = square-box outerBox passes
 
 -- of the output of a call: two cells at depth 3 name 6 counts and 10 marks, and the tape has 724 bytes
 abbrev out : List ℕ
-out = replicate 724 7
+out = replicate 732 7
 
 abbrev call : Outcome
 call = outcomeOf everyKind (query maxSceneObjects) out (replicate 6 8) (replicate 10 9)

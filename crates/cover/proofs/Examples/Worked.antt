@@ -57,7 +57,7 @@ worked-plan = refl
 
 -- 80 bytes of output, 1 count and 3 marks are enough
 abbrev out : List ℕ
-out = replicate 80 7
+out = replicate 88 7
 
 accepted : (outcomeOf workedSheet query out (replicate 1 8) (replicate 3 9)) .number ≡ 0
 unfolding workedSheet workedText workedCell opened openedSheet

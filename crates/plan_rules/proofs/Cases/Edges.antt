@@ -11,7 +11,7 @@ use Rattle.abstract_sheet.specs.Sheet.{Sheet}
 use Rattle.plan_rules.specs.declared.ScenePlan.{ScenePlan}
 use Rattle.plan_rules.specs.Limits.{maxSceneObjects}
 use Rattle.plan_rules.specs.declared.Reason.the-variants as reason
-use Rattle.plan_rules.specs.Event.{culledReference, scenePlan, after}
+use Rattle.plan_rules.specs.Event.{droppedProxy, culledReference, scenePlan, after}
 use Rattle.plan_rules.specs.World.{detailCellsFull, detailBudgetExhausted, world}
 use Rattle.plan_rules.specs.DrawUnits.{Units, cellDrawUnits}
 use Rattle.plan_rules.specs.Push.{addLoad}
@@ -59,7 +59,7 @@ all-narrowing = refl
 -- ---- "Limits: 20,000 cells in detail, 20,000 objects, 10,000 texts, 100,000 proxies", each at the limit and one before it
 
 abbrev state : ℕ → ℕ → ℕ → ℕ → ScenePlan
-state texts proxies cellsInDetail objects = scenePlan 0 texts proxies cellsInDetail objects 0 0 0 0
+state texts proxies cellsInDetail objects = scenePlan 0 texts proxies cellsInDetail objects 0 0 0 0 0
 
 abbrev exhausted : ScenePlan → ℕ
 exhausted s = answer (detailBudgetExhausted (viewing (page 1 1) (whole 1) 1 maxSceneObjects) s)
@@ -67,6 +67,13 @@ exhausted s = answer (detailBudgetExhausted (viewing (page 1 1) (whole 1) 1 maxS
 -- how many proxies are listed after one more is called for: a full list drops it
 abbrev proxiesAfter : ℕ → ℕ
 proxiesAfter proxies = (addLoad noTag nothing tt reason.DepthZero 0 (page 1 1) (world (state 0 proxies 0 0) tt [] [])) .state .«load_proxies»
+
+-- and how many are dropped
+abbrev droppedAfter : ℕ → ℕ
+droppedAfter proxies = (addLoad noTag nothing tt reason.DepthZero 0 (page 1 1) (world (state 0 proxies 0 0) tt [] [])) .state .«dropped_load_proxies»
+
+abbrev countAfter : ℕ → ℕ
+countAfter dropped = (after (droppedProxy reason.DepthZero 0 (page 1 1)) (scenePlan 0 0 100000 0 0 0 0 0 0 dropped)) .«dropped_load_proxies»
 
 pub limits : List Case
 limits =
@@ -78,9 +85,13 @@ limits =
     ∷ is (exhausted (state 0 100000 0 0)) 1
     ∷ is (proxiesAfter 99999) 100000
     ∷ is (proxiesAfter 100000) 100000
+    ∷ is (droppedAfter 99999) 0
+    ∷ is (droppedAfter 100000) 1
     -- "Totals stop at 2^64 − 1."
-    ∷ is ((after culledReference (scenePlan 0 0 0 0 0 (2 ^ 64 - 2) 0 0 0)) .«culled_references») (2 ^ 64 - 1)
-    ∷ is ((after culledReference (scenePlan 0 0 0 0 0 (2 ^ 64 - 1) 0 0 0)) .«culled_references») (2 ^ 64 - 1)
+    ∷ is ((after culledReference (scenePlan 0 0 0 0 0 (2 ^ 64 - 2) 0 0 0 0)) .«culled_references») (2 ^ 64 - 1)
+    ∷ is ((after culledReference (scenePlan 0 0 0 0 0 (2 ^ 64 - 1) 0 0 0 0)) .«culled_references») (2 ^ 64 - 1)
+    ∷ is (countAfter (2 ^ 64 - 2)) (2 ^ 64 - 1)
+    ∷ is (countAfter (2 ^ 64 - 1)) (2 ^ 64 - 1)
     ∷ []
 
 pub all-limits : map rulesOf limits ≡ map paperOf limits

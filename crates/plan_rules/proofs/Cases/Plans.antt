@@ -147,7 +147,7 @@ unfolding opened
 limit-in-only-member = refl
 
 -- with 99,999 proxies listed before, the member's box is the last that is listed, and the whole reference's is dropped
-pub reference-box-dropped : (visitReference noTag note nodeGrid 1 (plain 2 1) 2 tt 0 IDENTITY (world (scenePlan 0 0 99999 0 0 0 0 0 0) [] (replicate 2 0) (replicate 4 0))) .out
+pub reference-box-dropped : (visitReference noTag note nodeGrid 1 (plain 2 1) 2 tt 0 IDENTITY (world (scenePlan 0 0 99999 0 0 0 0 0 0 0) [] (replicate 2 0) (replicate 4 0))) .out
     ≡ (tt, droppedProxy reason.OtherLimit noLabel (page 30 90)) ∷ (tt, proxy reason.OtherLimit noLabel (page 30 30)) ∷ (tt, point 1 2 (spot 0 0)) ∷ []
 unfolding opened
 reference-box-dropped = refl
@@ -191,7 +191,7 @@ unfolding opened
 counts-of-two-references = (refl, refl, refl)
 
 -- The first reference is boxed. The second is not: cell 2 is visited in detail and its text listed. (With its count forgotten in between it would be boxed too, and no text listed.)
-pub counts-kept-between-references : (freshPlan noTag note twoReferences 3 (plain 4 20000) tt []) .state ≡ scenePlan 164 1 2 3 1 0 0 0 0
+pub counts-kept-between-references : (freshPlan noTag note twoReferences 3 (plain 4 20000) tt []) .state ≡ scenePlan 172 1 2 3 1 0 0 0 0 0
 unfolding opened
 counts-kept-between-references = refl
 

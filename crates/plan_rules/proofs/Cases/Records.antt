@@ -41,8 +41,8 @@ pub proxy-bytes : encode (proxy reason.CellLimit noLabel (bbox (whole 1) (whole 
 unfolding opened
 proxy-bytes = refl
 
--- "15 totals, last: the six of `SceneStats` in its field order, 8 each, length 54"
-pub totals-bytes : encode (totals (scenePlan 7 8 9 1 2 3 4 5 6)) ≡ (54 ∷ 0 ∷ 0 ∷ 0 ∷ 15 ∷ 0 ∷ []) ++ count 1 ++ count 2 ++ count 3 ++ count 4 ++ count 5 ++ count 6
+-- "15 totals, last: the six of `SceneStats` in its field order, 8 each", and document 02's seventh: "Their record has 62 bytes"
+pub totals-bytes : encode (totals (scenePlan 8 9 10 1 2 3 4 5 6 7)) ≡ (62 ∷ 0 ∷ 0 ∷ 0 ∷ 15 ∷ 0 ∷ []) ++ count 1 ++ count 2 ++ count 3 ++ count 4 ++ count 5 ++ count 6 ++ count 7
 unfolding opened
 totals-bytes = refl
 
@@ -51,7 +51,7 @@ pub nan-bytes : encode (text 0 (record { x = nan; y = nan })) ≡ (26 ∷ 0 ∷ 
 unfolding opened
 nan-bytes = refl
 
--- "A full proxy list drops further proxies silently."
+-- "A full proxy list drops further proxies silently": a dropped one has no record.
 pub dropped-bytes : encode (droppedProxy reason.CellLimit 0 (bbox (whole 1) (whole 2) (whole 4) (whole 8))) ≡ []
 unfolding opened
 dropped-bytes = refl

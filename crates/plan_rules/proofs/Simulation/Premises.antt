@@ -1,8 +1,8 @@
 -- What a rule knows where it goes a step further, and where it says an event: the premises from which a caller of the induction shows that the event may be said.
 -- `Stands depth t x p`: a visit of the source x at the placement p with this depth may stand at the tag t. `Allowed t e`: the event e may be said at the tag t.
 -- Assumes nothing.
-use mathlib.Core.Path.{_≡_}
-use mathlib.Core.Bool.{not}
+use mathlib.Core.Path.{_≡_, refl}
+use mathlib.Core.Bool.{Bool, true, false, not}
 use mathlib.Core.Option.{some}
 use Prim.Native.Nat.{ℕ, suc, _<_}
 use lib.Dec.{ltb}
@@ -23,21 +23,36 @@ use Rattle.plan_rules.specs.declared.ScenePlan.{ScenePlan}
 use Rattle.plan_rules.specs.Limits.{maxLoadProxies}
 use Rattle.plan_rules.specs.declared.Reason.{Reason}
 use Rattle.plan_rules.specs.Event.{Event, batch, text, point, proxy, droppedProxy, skippedMember, skippedBatch, culledReference, culledBatch, detailCell, totals, Step, batchAt, textAt, nodeAt, referenceAt, member, pointAt}
-use Rattle.plan_rules.specs.World.{Query}
+use Rattle.plan_rules.specs.World.{Query, detailBudgetExhausted}
 
--- where the list of proxies stands when one is listed, or dropped
-abbrev pub Room : ScenePlan → Event → Type 0
-Room s (batch n p) = Unit {0}
-Room s (text n v) = Unit {0}
-Room s (point l k v) = Unit {0}
-Room s (proxy y l b) = Yes (ltb (s .«load_proxies») maxLoadProxies)
-Room s (droppedProxy y l b) = Yes (not (ltb (s .«load_proxies») maxLoadProxies))
-Room s (skippedMember g b) = Unit {0}
-Room s (skippedBatch b) = Unit {0}
-Room s culledReference = Unit {0}
-Room s culledBatch = Unit {0}
-Room s detailCell = Unit {0}
-Room s (totals u) = Unit {0}
+-- What the state is where an event is said: an object meets a budget that is not exhausted, a proxy a list that is not full, a dropped one a full list,
+-- and the totals are the state's own.
+abbrev pub Room : Query → ScenePlan → Event → Type 0
+Room q s (batch n p) = Yes (not (detailBudgetExhausted q s))
+Room q s (text n v) = Yes (not (detailBudgetExhausted q s))
+Room q s (point l k v) = Yes (not (detailBudgetExhausted q s))
+Room q s (proxy y l b) = Yes (ltb (s .«load_proxies») maxLoadProxies)
+Room q s (droppedProxy y l b) = Yes (not (ltb (s .«load_proxies») maxLoadProxies))
+Room q s (skippedMember g b) = Unit {0}
+Room q s (skippedBatch b) = Unit {0}
+Room q s culledReference = Unit {0}
+Room q s culledBatch = Unit {0}
+Room q s detailCell = Unit {0}
+Room q s (totals u) = u ≡ s
+
+-- a plan says its totals, a visit all else
+abbrev pub isTotals : Event → Bool
+isTotals (batch n p) = false
+isTotals (text n v) = false
+isTotals (point l k v) = false
+isTotals (proxy y l b) = false
+isTotals (droppedProxy y l b) = false
+isTotals (skippedMember g b) = false
+isTotals (skippedBatch b) = false
+isTotals culledReference = false
+isTotals culledBatch = false
+isTotals detailCell = false
+isTotals (totals u) = true
 
 module _ {P : Type 0} (enter : Step → P → P) (S : Sheet) (q : Query) where
   pub record Premises (Stands : ℕ → P → PreparedSource → Placement → Type 0) (Allowed : P → Event → Type 0) : Type 0 where
@@ -65,22 +80,26 @@ module _ {P : Type 0} (enter : Step → P → P) (S : Sheet) (q : Query) where
     pub culled-batch : (t : P) → Allowed t culledBatch
     pub detail-cell : (t : P) → Allowed t detailCell
 
-  -- where nothing is asked of tags and events
-  pub no-premises : Premises (λ d t s p. Unit {0}) (λ t e. Unit {0})
-  no-premises = record {
+  -- where nothing is asked of tags, and of events what all have that a visit says
+  pub visit-premises : (Allowed : Event → Type 0) → ((e : Event) → isTotals e ≡ false → Allowed e) → Premises (λ d t s p. Unit {0}) (λ t e. Allowed e)
+  visit-premises Allowed ok = record {
     at-batch = λ d t n c i p h e l. tt;
     at-text = λ d t n c i p h e l. tt;
     at-node = λ d t n c i p h e l. tt;
     at-reference = λ d t n c i p h e l. tt;
     at-member = λ d t n r x y p h e k l. tt;
-    listed-batch = λ d t n b p h e. tt;
-    listed-text = λ d t n x p h e. tt;
-    listed-point = λ d t n x j p h e l. tt;
-    listed-proxy = λ t y l b. tt;
-    dropped-proxy = λ t y l b. tt;
-    skipped-batch = λ d t n b p h e y. tt;
-    skipped-member = λ d t n r b x y p h e eb k l z. tt;
-    culled-reference = λ t. tt;
-    culled-batch = λ t. tt;
-    detail-cell = λ t. tt;
+    listed-batch = λ d t n b p h e. ok (batch n p) refl;
+    listed-text = λ d t n x p h e. ok (text n (transformPoint2 p (x .origin))) refl;
+    listed-point = λ d t n x j p h e l. ok (point (x .layer) (x .«node_type») (transformPoint2 p (x .point j))) refl;
+    listed-proxy = λ t y l b. ok (proxy y l b) refl;
+    dropped-proxy = λ t y l b. ok (droppedProxy y l b) refl;
+    skipped-batch = λ d t n g p h e y. ok (skippedBatch (transformBbox p (g .bbox))) refl;
+    skipped-member = λ d t n r b x y p h e eb k l z. ok (skippedMember (sourceIsDegenerate b) (transformBbox (p · gridMemberTransform (r .grid) x y) b)) refl;
+    culled-reference = λ t. ok culledReference refl;
+    culled-batch = λ t. ok culledBatch refl;
+    detail-cell = λ t. ok detailCell refl;
   }
+
+  -- where nothing is asked of tags and events
+  pub no-premises : Premises (λ d t s p. Unit {0}) (λ t e. Unit {0})
+  no-premises = visit-premises (λ e. Unit {0}) (λ e z. tt)

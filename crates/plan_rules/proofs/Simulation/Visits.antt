@@ -8,6 +8,7 @@ use mathlib.Core.Option.{Option, none, some}
 use Prim.Native.Nat.{ℕ, zero, suc, _<_}
 use lib.ListN.{set}
 use lib.Dec.{ltb}
+use lib.Dec.{T as Yes}
 use Rattle.geometry.specs.declared.bbox.WorldBBox.{WorldBBox}
 use Rattle.geometry.specs.declared.bbox.Bounds.{Bounds}
 use Rattle.geometry.specs.declared.bbox.Bounds.the-variants.{Absent, Box}
@@ -34,13 +35,13 @@ use Rattle.plan_rules.specs.DrawUnits.{Units, referenceDrawUnits}
 use Rattle.plan_rules.specs.Push.{say, addLoad, addLoadIfBoxed, pushFoundGeometry, pushGeometry, pushFoundText, pushText, pushPoint, pushFoundNode, pushNode}
 use Rattle.plan_rules.specs.Visit.{sourceUnits, haltWithCell, haltWithMember, VisitReference, VisitSource, geometryStep, textStep, nodeStep, referenceStep, cellBody, visitFoundCell, visitSourceWith, memberStep, columnStep, visitCountedReference, visitBoxedReference, visitSourcedReference, visitFoundReference, visitReference, visitCell}
 use Rattle.plan_rules.specs.Plan.{loadRootBox, loadRoot, visitRoot, plan}
-use Rattle.plan_rules.proofs.Simulation.{Related, related, RelatedFlow, goes, halts, Keeps, KeepsFlow, apply-sim, apply-flow-sim, cond-sim, cond-flow-sim, bind-sim, ending-sim, each-sim}
+use Rattle.plan_rules.proofs.Simulation.{Related, related, RelatedFlow, goes, halts, KeepsAt, Keeps, KeepsFlowAt, KeepsFlow, apply-sim, apply-flow-sim, cond-sim, cond-flow-sim, bind-sim, ending-sim, each-sim}
 use Rattle.plan_rules.proofs.Simulation.Premises.{Room, Premises}
 
 module _ {PA PB A B : Type 0} (enterA : Step → PA → PA) (enterB : Step → PB → PB) (emitA : PA → Event → ℕ → A → A) (emitB : PB → Event → ℕ → B → B) (S : Sheet) (cells : ℕ) (q : Query)
     (R : ScenePlan → A → B → Type 0) (Stands : ℕ → PA → PreparedSource → Placement → Type 0) (Allowed : PA → Event → Type 0) (G : Premises enterA S q Stands Allowed)
-    (keeps : (ta : PA) (tb : PB) (e : Event) → Allowed ta e → (s : ScenePlan) → Room s e → (a : A) (b : B) → R s a b → R (after e s) (emitA ta e (s .«tape_end») a) (emitB tb e (s .«tape_end») b)) where
-  pub say-sim : (ta : PA) (tb : PB) (e : Event) → Allowed ta e → (s : ScenePlan) → Room s e → (a : A) (b : B) (k m : List ℕ) → R s a b → Related R (say enterA emitA ta e (world s a k m)) (say enterB emitB tb e (world s b k m))
+    (keeps : (ta : PA) (tb : PB) (e : Event) → Allowed ta e → (s : ScenePlan) → Room q s e → (a : A) (b : B) → R s a b → R (after e s) (emitA ta e (s .«tape_end») a) (emitB tb e (s .«tape_end») b)) where
+  pub say-sim : (ta : PA) (tb : PB) (e : Event) → Allowed ta e → (s : ScenePlan) → Room q s e → (a : A) (b : B) (k m : List ℕ) → R s a b → Related R (say enterA emitA ta e (world s a k m)) (say enterB emitB tb e (world s b k m))
   unfolding say
   say-sim ta tb e ok s room a b k m r = related (keeps ta tb e ok s room a b r)
 
@@ -67,6 +68,9 @@ module _ {PA PB A B : Type 0} (enterA : Step → PA → PA) (enterB : Step → P
 
   -- ---- pushes
 
+  abbrev pub Budget : ScenePlan → Type 0
+  Budget s = Yes (not (detailBudgetExhausted q s))
+
   found-geometry-sim : (d : ℕ) (ta : PA) (tb : PB) (n : ℕ) (p : Placement) → Stands d ta (Geometry n) p → (o : Option PreparedGeometry) → S .geometry n ≡ o
       → Keeps R (pushFoundGeometry enterA emitA S q ta n p o) (pushFoundGeometry enterB emitB S q tb n p o)
   unfolding pushFoundGeometry
@@ -79,22 +83,22 @@ module _ {PA PB A B : Type 0} (enterA : Step → PA → PA) (enterB : Step → P
       (λ _. cond-sim R (isSubpixel size) (λ y. say-sim ta tb (skippedBatch box) (G .skipped-batch d ta n x p h e y) s tt a b k m r)
       (λ _. cond-sim R (isDenseBatch size (x .«element_count»)) (λ _. load-sim ta tb _ noLabel box s a b k m r)
       (λ _. cond-sim R (detailBudgetExhausted q s) (λ _. load-sim ta tb _ noLabel box s a b k m r)
-      (λ _. say-sim ta tb (batch n p) (G .listed-batch d ta n x p h e) s tt a b k m r)))))
+      (λ z. say-sim ta tb (batch n p) (G .listed-batch d ta n x p h e) s z a b k m r)))))
 
   geometry-sim : (d : ℕ) (ta : PA) (tb : PB) (n : ℕ) (p : Placement) → Stands d ta (Geometry n) p → Keeps R (pushGeometry enterA emitA S q ta n p) (pushGeometry enterB emitB S q tb n p)
   unfolding pushGeometry
   geometry-sim d ta tb n p h = found-geometry-sim d ta tb n p h (S .geometry n) refl
 
   found-text-sim : (d : ℕ) (ta : PA) (tb : PB) (n : ℕ) (p : Placement) → Stands d ta (Text n) p → (o : Option PreparedText) → S .text n ≡ o
-      → Keeps R (pushFoundText enterA emitA S q ta n p o) (pushFoundText enterB emitB S q tb n p o)
+      → (s : ScenePlan) → Budget s → KeepsAt R s (pushFoundText enterA emitA S q ta n p o) (pushFoundText enterB emitB S q tb n p o)
   unfolding pushFoundText
-  found-text-sim d ta tb n p h none e s a b k m r = related r
-  found-text-sim d ta tb n p h (some x) e s a b k m r =
+  found-text-sim d ta tb n p h none e s z a b k m r = related r
+  found-text-sim d ta tb n p h (some x) e s z a b k m r =
       let v = transformPoint2 p (x .origin) in
       cond-sim R (hides q (x .layer) (x .«data_type»)) (λ _. related r)
-      (λ _. cond-sim R (pointInBbox v (q .view)) (λ _. say-sim ta tb (text n v) (G .listed-text d ta n x p h e) s tt a b k m r) (λ _. related r))
+      (λ _. cond-sim R (pointInBbox v (q .view)) (λ _. say-sim ta tb (text n v) (G .listed-text d ta n x p h e) s z a b k m r) (λ _. related r))
 
-  text-sim : (d : ℕ) (ta : PA) (tb : PB) (n : ℕ) (p : Placement) → Stands d ta (Text n) p → Keeps R (pushText enterA emitA S q ta n p) (pushText enterB emitB S q tb n p)
+  text-sim : (d : ℕ) (ta : PA) (tb : PB) (n : ℕ) (p : Placement) → Stands d ta (Text n) p → (s : ScenePlan) → Budget s → KeepsAt R s (pushText enterA emitA S q ta n p) (pushText enterB emitB S q tb n p)
   unfolding pushText
   text-sim d ta tb n p h = found-text-sim d ta tb n p h (S .text n) refl
 
@@ -105,7 +109,7 @@ module _ {PA PB A B : Type 0} (enterA : Step → PA → PA) (enterB : Step → P
       let v = transformPoint2 p (x .point j) in
       cond-flow-sim R (not (pointInBbox v (q .view))) (λ _. goes (related r))
       (λ _. cond-flow-sim R (detailBudgetExhausted q s) (λ _. halts (related r))
-      (λ _. goes (say-sim (enterA (pointAt j) ta) (enterB (pointAt j) tb) (point (x .layer) (x .«node_type») v) (G .listed-point d ta n x j p h e j<) s tt a b k m r)))
+      (λ z. goes (say-sim (enterA (pointAt j) ta) (enterB (pointAt j) tb) (point (x .layer) (x .«node_type») v) (G .listed-point d ta n x j p h e j<) s z a b k m r)))
 
   found-node-sim : (d : ℕ) (ta : PA) (tb : PB) (n : ℕ) (p : Placement) → Stands d ta (Node n) p → (o : Option NodeRecord) → S .node n ≡ o
       → KeepsFlow R (pushFoundNode enterA emitA S q ta p o) (pushFoundNode enterB emitB S q tb p o)
@@ -127,25 +131,25 @@ module _ {PA PB A B : Type 0} (enterA : Step → PA → PA) (enterB : Step → P
   module _ (d : ℕ) (va : VisitReference enterA emitA S cells q) (vb : VisitReference enterB emitB S cells q) (hv : KeepsReferences d va vb) where
     module _ (ta : PA) (tb : PB) (n : ℕ) (c : CellRecord) (p : Placement) (box : Bounds) (h : Stands d ta (Cell n) p) (e : S .cell n ≡ some c) where
       -- at an exhausted budget each loop adds the cell's box and is over
-      step-sim : (s : ScenePlan) (a : A) (b : B) (k m : List ℕ) → R s a b → {f : Flow A} {g : Flow B} → RelatedFlow R f g
+      step-sim : (s : ScenePlan) (a : A) (b : B) (k m : List ℕ) → R s a b → {f : Flow A} {g : Flow B} → (Budget s → RelatedFlow R f g)
           → RelatedFlow R (cond (detailBudgetExhausted q s) (halt (addLoadIfBoxed enterA emitA ta reason.OtherLimit n box (world s a k m))) f) (cond (detailBudgetExhausted q s) (halt (addLoadIfBoxed enterB emitB tb reason.OtherLimit n box (world s b k m))) g)
-      step-sim s a b k m r u = cond-flow-sim R (detailBudgetExhausted q s) (λ _. halts (load-if-boxed-sim ta tb _ n box s a b k m r)) (λ _. u)
+      step-sim s a b k m r u = cond-flow-sim R (detailBudgetExhausted q s) (λ _. halts (load-if-boxed-sim ta tb _ n box s a b k m r)) u
 
       pub geometry-step-sim : (i : ℕ) → i < c .geometries .count → KeepsFlow R (geometryStep enterA emitA S cells q ta n c p box i) (geometryStep enterB emitB S cells q tb n c p box i)
       unfolding geometryStep
-      geometry-step-sim i i< s a b k m r = step-sim s a b k m r (goes (geometry-sim d (enterA (batchAt i) ta) (enterB (batchAt i) tb) (c .geometries .at i) p (G .at-batch d ta n c i p h e i<) s a b k m r))
+      geometry-step-sim i i< s a b k m r = step-sim s a b k m r (λ _. goes (geometry-sim d (enterA (batchAt i) ta) (enterB (batchAt i) tb) (c .geometries .at i) p (G .at-batch d ta n c i p h e i<) s a b k m r))
 
       pub text-step-sim : (i : ℕ) → i < c .texts .count → KeepsFlow R (textStep enterA emitA S cells q ta n c p box i) (textStep enterB emitB S cells q tb n c p box i)
       unfolding textStep
-      text-step-sim i i< s a b k m r = step-sim s a b k m r (goes (text-sim d (enterA (textAt i) ta) (enterB (textAt i) tb) (c .texts .at i) p (G .at-text d ta n c i p h e i<) s a b k m r))
+      text-step-sim i i< s a b k m r = step-sim s a b k m r (λ z. goes (text-sim d (enterA (textAt i) ta) (enterB (textAt i) tb) (c .texts .at i) p (G .at-text d ta n c i p h e i<) s z a b k m r))
 
       pub node-step-sim : (i : ℕ) → i < c .nodes .count → KeepsFlow R (nodeStep enterA emitA S cells q ta n c p box i) (nodeStep enterB emitB S cells q tb n c p box i)
       unfolding nodeStep
-      node-step-sim i i< s a b k m r = step-sim s a b k m r (halt-with-cell-sim ta tb n box (node-sim d (enterA (nodeAt i) ta) (enterB (nodeAt i) tb) (c .nodes .at i) p (G .at-node d ta n c i p h e i<) s a b k m r))
+      node-step-sim i i< s a b k m r = step-sim s a b k m r (λ _. halt-with-cell-sim ta tb n box (node-sim d (enterA (nodeAt i) ta) (enterB (nodeAt i) tb) (c .nodes .at i) p (G .at-node d ta n c i p h e i<) s a b k m r))
 
       pub reference-step-sim : (i : ℕ) → i < c .references .count → KeepsFlow R (referenceStep enterA emitA S cells q ta n c p box va i) (referenceStep enterB emitB S cells q tb n c p box vb i)
       unfolding referenceStep
-      reference-step-sim i i< s a b k m r = step-sim s a b k m r (goes (hv (enterA (referenceAt i) ta) (enterB (referenceAt i) tb) (c .references .at i) p (G .at-reference d ta n c i p h e i<) s a b k m r))
+      reference-step-sim i i< s a b k m r = step-sim s a b k m r (λ _. goes (hv (enterA (referenceAt i) ta) (enterB (referenceAt i) tb) (c .references .at i) p (G .at-reference d ta n c i p h e i<) s a b k m r))
 
       body-sim : KeepsFlow R (cellBody enterA emitA S cells q ta n c p box va) (cellBody enterB emitB S cells q tb n c p box vb)
       unfolding cellBody
@@ -169,19 +173,19 @@ module _ {PA PB A B : Type 0} (enterA : Step → PA → PA) (enterB : Step → P
         (ending-sim R (apply-flow-sim R (cellBody enterA emitA S cells q ta n c p box va) (cellBody enterB emitB S cells q tb n c p box vb) (body-sim ta tb n c p box h e)
         (say-sim ta tb detailCell (G .detail-cell ta) s tt a b k (set m (openPlace cells n) 1) r)))))))
 
-    pub source-sim : (ta : PA) (tb : PB) (x : PreparedSource) (p : Placement) → Stands d ta x p → KeepsFlow R (visitSourceWith enterA emitA S cells q va ta x p) (visitSourceWith enterB emitB S cells q vb tb x p)
+    pub source-sim : (ta : PA) (tb : PB) (x : PreparedSource) (p : Placement) → Stands d ta x p → (s : ScenePlan) → Budget s → KeepsFlowAt R s (visitSourceWith enterA emitA S cells q va ta x p) (visitSourceWith enterB emitB S cells q vb tb x p)
     unfolding visitSourceWith
-    source-sim ta tb (Geometry n) p h s a b k m r = goes (geometry-sim d ta tb n p h s a b k m r)
-    source-sim ta tb (Text n) p h s a b k m r = goes (text-sim d ta tb n p h s a b k m r)
-    source-sim ta tb (Node n) p h s a b k m r = node-sim d ta tb n p h s a b k m r
-    source-sim ta tb (Reference n) p h s a b k m r = goes (hv ta tb n p h s a b k m r)
-    source-sim ta tb (Cell n) p h s a b k m r = goes (found-cell-sim ta tb n p h (S .cell n) refl s a b k m r)
+    source-sim ta tb (Geometry n) p h s z a b k m r = goes (geometry-sim d ta tb n p h s a b k m r)
+    source-sim ta tb (Text n) p h s z a b k m r = goes (text-sim d ta tb n p h s z a b k m r)
+    source-sim ta tb (Node n) p h s z a b k m r = node-sim d ta tb n p h s a b k m r
+    source-sim ta tb (Reference n) p h s z a b k m r = goes (hv ta tb n p h s a b k m r)
+    source-sim ta tb (Cell n) p h s z a b k m r = goes (found-cell-sim ta tb n p h (S .cell n) refl s a b k m r)
 
-  -- ---- a reference, given that the visit of its members' sources keeps the relation
+  -- ---- a reference, given that the visit of its members' sources keeps the relation where the budget is not exhausted
 
   abbrev pub KeepsMembers : VisitSource enterA emitA S cells q → VisitSource enterB emitB S cells q → PA → PB → PreparedReference → Placement → Type 0
-  KeepsMembers va vb ta tb r p = (x y : ℕ) → x < r .grid .columns → y < r .grid .rows
-      → KeepsFlow R (va (enterA (member x y) ta) (r .source) (p · gridMemberTransform (r .grid) x y)) (vb (enterB (member x y) tb) (r .source) (p · gridMemberTransform (r .grid) x y))
+  KeepsMembers va vb ta tb r p = (x y : ℕ) → x < r .grid .columns → y < r .grid .rows → (s : ScenePlan) → Budget s
+      → KeepsFlowAt R s (va (enterA (member x y) ta) (r .source) (p · gridMemberTransform (r .grid) x y)) (vb (enterB (member x y) tb) (r .source) (p · gridMemberTransform (r .grid) x y))
 
   module _ (d : ℕ) (va : VisitSource enterA emitA S cells q) (vb : VisitSource enterB emitB S cells q) (ta : PA) (tb : PB) (n : ℕ) (r : PreparedReference) (p : Placement) (sb wb : WorldBBox)
       (h : Stands d ta (Reference n) p) (e : S .reference n ≡ some r) (eb : r .«source_bbox» ≡ boxed sb) (hv : KeepsMembers va vb ta tb r p) where
@@ -193,10 +197,10 @@ module _ {PA PB A B : Type 0} (enterA : Step → PA → PA) (enterB : Step → P
         let hereA = enterA (member x y) ta in
         let hereB = enterB (member x y) tb in
         cond-flow-sim R (detailBudgetExhausted q s) (λ _. halts (load-sim ta tb _ (label (r .source)) wb s a b k m o))
-        (λ _. cond-flow-sim R (not (overlaps box (q .view))) (λ _. goes (say-sim hereA hereB culledReference (G .culled-reference hereA) s tt a b k m o))
+        (λ z. cond-flow-sim R (not (overlaps box (q .view))) (λ _. goes (say-sim hereA hereB culledReference (G .culled-reference hereA) s tt a b k m o))
         (λ _. cond-flow-sim R (isSubpixel size) (λ i. goes (say-sim hereA hereB (skippedMember (sourceIsDegenerate sb) box) (G .skipped-member d ta n r sb x y p h e eb x< y< i) s tt a b k m o))
         (λ _. cond-flow-sim R (collapses (collapseTest (size .width) (size .height) 1 u d false)) (λ _. goes (load-sim hereA hereB _ (label (r .source)) box s a b k m o))
-        (λ _. halt-with-member-sim ta hereA tb hereB (label (r .source)) box wb (hv x y x< y< s a b k m o)))))
+        (λ _. halt-with-member-sim ta hereA tb hereB (label (r .source)) box wb (hv x y x< y< s z a b k m o)))))
 
     pub column-sim : (u x : ℕ) → x < r .grid .columns → KeepsFlow R (columnStep enterA emitA S cells q va d ta r p sb wb u x) (columnStep enterB emitB S cells q vb d tb r p sb wb u x)
     unfolding columnStep
@@ -238,7 +242,7 @@ module _ {PA PB A B : Type 0} (enterA : Step → PA → PA) (enterB : Step → P
 
   pub reference-sim : (d : ℕ) → KeepsReferences d (visitReference enterA emitA S cells q d) (visitReference enterB emitB S cells q d)
   unfolding visitReference
-  reference-sim zero ta tb n p h = found-reference-sim 0 (λ t s p w. go w) (λ t s p w. go w) ta tb n p h (λ r e x y x< y< s a b k m i. goes (related i)) (S .reference n) refl
+  reference-sim zero ta tb n p h = found-reference-sim 0 (λ t s p w. go w) (λ t s p w. go w) ta tb n p h (λ r e x y x< y< s z a b k m i. goes (related i)) (S .reference n) refl
   reference-sim (suc d) ta tb n p h =
       found-reference-sim (suc d) (visitSourceWith enterA emitA S cells q (visitReference enterA emitA S cells q d)) (visitSourceWith enterB emitB S cells q (visitReference enterB emitB S cells q d)) ta tb n p h
       (λ r e x y x< y<. source-sim d (visitReference enterA emitA S cells q d) (visitReference enterB emitB S cells q d) (reference-sim d) (enterA (member x y) ta) (enterB (member x y) tb) (r .source) (p · gridMemberTransform (r .grid) x y) (G .at-member d ta n r x y p h e x< y<))
@@ -260,13 +264,13 @@ module _ {PA PB A B : Type 0} (enterA : Step → PA → PA) (enterB : Step → P
   load-root-sim ta tb none s a b k m r = related r
   load-root-sim ta tb (some c) s a b k m r = root-box-sim ta tb (c .bbox) s a b k m r
 
-  root-sim : (d : ℕ) (ta : PA) (tb : PB) → Stands d ta (Cell (q .root)) IDENTITY → Keeps R (visitRoot enterA emitA S cells q d ta) (visitRoot enterB emitB S cells q d tb)
+  pub root-sim : (d : ℕ) (ta : PA) (tb : PB) → Stands d ta (Cell (q .root)) IDENTITY → Keeps R (visitRoot enterA emitA S cells q d ta) (visitRoot enterB emitB S cells q d tb)
   unfolding visitRoot
   root-sim zero ta tb h = load-root-sim ta tb (S .cell (q .root))
   root-sim (suc d) ta tb h = cell-sim (suc d) ta tb (q .root) IDENTITY h
 
   totals-sim : (ta : PA) (tb : PB) → ((u : ScenePlan) → Allowed ta (totals u)) → {w : World A} {v : World B} → Related R w v → Related R (say enterA emitA ta (totals (w .state)) w) (say enterB emitB tb (totals (v .state)) v)
-  totals-sim ta tb ok (related {s} {a} {b} {k} {m} r) = say-sim ta tb (totals s) (ok s) s tt a b k m r
+  totals-sim ta tb ok (related {s} {a} {b} {k} {m} r) = say-sim ta tb (totals s) (ok s) s refl a b k m r
 
   pub plan-sim : (ta : PA) (tb : PB) → ((u : ScenePlan) → Allowed ta (totals u)) → Stands (q .depth) ta (Cell (q .root)) IDENTITY → Keeps R (plan enterA emitA S cells q ta) (plan enterB emitB S cells q tb)
   unfolding plan

@@ -38,7 +38,7 @@ pub +visit-cell+visit-reference+visit-source-spec : {M : Type 1} → statement M
     (λ c κs. search needs)  -- stack-remove-requires
     (VisitCell.exhausted-keeps-length t)
     (λ c. search needs)  -- same-length-4
-    (λ c. search needs)  -- same-length-5
+    (VisitCell.exhausted-keeps-marks t)
     (VisitCell.exhausted t)
     (λ c κs. search needs)  -- cell-reference-at-requires
     (VisitCell.reference-falls t)

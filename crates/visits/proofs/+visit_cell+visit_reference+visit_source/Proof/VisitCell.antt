@@ -152,6 +152,14 @@ module _ (t : ℕ) where
       let l = listed after-loop in
       loaded .load-cell .kept .0 ∙ after-loop .loop .inv .1 ∙ l .push-items .kept .1 .1 .1 .1 .0 ∙ entered l .enter-cell .kept .1 .0
 
+  pub exhausted-keeps-marks : lts.Need-same-length-5 (visit-cell-claims t) (visit-cell-at t) visit-cell.Post Inv-loop μ-loop
+  exhausted-keeps-marks c =
+      let removed = c .before .before in
+      let loaded = removed .before .before .before .before in
+      let after-loop = loaded .before .before .before .before .before in
+      let l = listed after-loop in
+      removed .stack-remove .kept .0 ∙ after-loop .loop .inv .3 ∙ entered l .enter-cell .kept .1 .1 .0
+
   pub exhausted : lts.Need-returns-3 (visit-cell-claims t) (visit-cell-at t) visit-cell.Post Inv-loop μ-loop
   exhausted c =
       let removed = c .before .before in
