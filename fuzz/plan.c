@@ -91,7 +91,7 @@ static struct answer call(const struct input *in, const struct lent *lent)
 
 /* ---- what guides the search besides the code's own counters: the answer, and how many records of each kind */
 
-enum { LISTED = 14, TOTALS = LISTED + 5 * 32, NOTED = TOTALS + 6 * 64 };
+enum { LISTED = 14, TOTALS = LISTED + 5 * 32, NOTED = TOTALS + 7 * 64 };
 
 __attribute__((section("__libfuzzer_extra_counters"))) static uint8_t features[NOTED + 32];
 
@@ -114,7 +114,7 @@ static size_t digits(uint64_t value)
 
 static void expect_tape(const uint8_t *tape, size_t length)
 {
-    static const size_t lengths[5] = { 58, 26, 26, 42, 54 };
+    static const size_t lengths[5] = { 58, 26, 26, 42, 62 };
     size_t at = 0, listed[5] = { 0, 0, 0, 0, 0 }, i;
     while (at < length) {
         size_t record, kind;
@@ -128,14 +128,15 @@ static void expect_tape(const uint8_t *tape, size_t length)
         at += record;
     }
     expect(listed[4] == 1, "a plan has its totals once");
-    expect(ribaltzen_field(tape + length - 40, 8) == listed[0] + listed[1] + listed[2], "objects are the batches, texts and points");
+    expect(ribaltzen_field(tape + length - 48, 8) == listed[0] + listed[1] + listed[2], "objects are the batches, texts and points");
     expect(listed[0] + listed[1] + listed[2] <= 20000 && listed[1] <= 10000 && listed[3] <= 100000, "the limits hold");
-    expect(ribaltzen_field(tape + length - 48, 8) <= 20000, "at most 20,000 cells are in detail");
+    expect(ribaltzen_field(tape + length - 56, 8) <= 20000, "at most 20,000 cells are in detail");
+    expect(ribaltzen_field(tape + length - 8, 8) == 0 || listed[3] == 100000, "only a full list drops proxies");
     for (i = 0; i < 5; i++) {
         features[LISTED + 32 * i + digits(listed[i]) % 32] = 1;
     }
-    for (i = 0; i < 6; i++) {
-        features[TOTALS + 64 * i + digits(ribaltzen_field(tape + length - 48 + 8 * i, 8))] = 1;
+    for (i = 0; i < 7; i++) {
+        features[TOTALS + 64 * i + digits(ribaltzen_field(tape + length - 56 + 8 * i, 8))] = 1;
     }
 }
 
@@ -166,7 +167,7 @@ static void expect_memory(const struct input *in, struct answer answer, const st
         expect(all(lent->out, 0, lent->out_length, 0), "number 12 zeroes the whole output");
         return;
     }
-    expect(answer.length <= lent->out_length && answer.length >= 54, "the tape lies within the output");
+    expect(answer.length <= lent->out_length && answer.length >= 62, "the tape lies within the output");
     expect(all(lent->out, answer.length, lent->out_length, fill), "output past the tape is as lent");
     expect_tape(lent->out, answer.length);
 }

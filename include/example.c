@@ -182,9 +182,9 @@ static void print_record(const struct ribaltzen_record *record)
         print_proxy(&record->of.proxy);
         break;
     case RIBALTZEN_TOTALS:
-        printf("totals %" PRIu64 " %" PRIu64 " %" PRIu64 " %" PRIu64 " %" PRIu64 " %" PRIu64, totals->detail_cells,
-               totals->detail_objects, totals->culled_references, totals->skipped_references, totals->culled_batches,
-               totals->skipped_batches);
+        printf("totals %" PRIu64 " %" PRIu64 " %" PRIu64 " %" PRIu64 " %" PRIu64 " %" PRIu64 " %" PRIu64,
+               totals->detail_cells, totals->detail_objects, totals->culled_references, totals->skipped_references,
+               totals->culled_batches, totals->skipped_batches, totals->dropped_proxies);
         break;
     }
     putchar('\n');

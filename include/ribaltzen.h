@@ -25,9 +25,9 @@ extern "C" {
 #endif
 
 #define RIBALTZEN_VERSION_MAJOR 0
-#define RIBALTZEN_VERSION_MINOR 5
+#define RIBALTZEN_VERSION_MINOR 6
 #define RIBALTZEN_VERSION_PATCH 0
-#define RIBALTZEN_VERSION "0.5.0"
+#define RIBALTZEN_VERSION "0.6.0"
 
 /* What the functions return: 0, else the refusal's number. ribaltzen_refusal has the question answered "no". */
 enum {
@@ -151,7 +151,8 @@ uint32_t scene_plan_with_finder(const uint8_t *sheet, size_t sheet_length,
 #define RIBALTZEN_MOST_PLACES (RIBALTZEN_MOST_SHEET / RIBALTZEN_LEAST_RECORD) /* of a finder: 645,277 */
 #define RIBALTZEN_MOST_CELLS ((size_t)4096)
 #define RIBALTZEN_MOST_DEPTH ((uint32_t)32)
-#define RIBALTZEN_MOST_TAPE ((size_t)5360054) /* bytes: 100,000 proxies, 20,000 batches and the totals */
+#define RIBALTZEN_MOST_TAPE ((size_t)5360062) /* bytes: 100,000 proxies, 20,000 batches and the totals; no tape is
+                                                 longer: theorem tape-at-most (crates/plan_rules) */
 #define RIBALTZEN_MOST_COUNTS (RIBALTZEN_MOST_CELLS * RIBALTZEN_MOST_DEPTH)      /* places of 64 bits */
 #define RIBALTZEN_MOST_MARKS (RIBALTZEN_MOST_CELLS * (RIBALTZEN_MOST_DEPTH + 2)) /* bytes */
 

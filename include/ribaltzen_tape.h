@@ -9,8 +9,9 @@
  *     if (more != 0) { the tape is damaged at cursor.offset, and cursor.damage says how }
  *
  * Any bytes may be given, at any alignment: nothing is read past their length. A tape that the library wrote is never
- * damaged. One that was cut is, wherever it was cut: only totals, as the last record, end a tape well. Changed bytes in
- * the body of a record cannot be told from others.
+ * damaged. One that was cut is, wherever it was cut: only totals, as the last record, end a tape well. So is one that a
+ * version before 0.6 wrote, at its totals, which had six counts. Changed bytes in the body of a record cannot be told
+ * from others.
  *
  * Nothing of the library is linked, and nothing is allocated.
  *
@@ -61,11 +62,12 @@ struct ribaltzen_proxy {
     double min_x, min_y, max_x, max_y;
 };
 
-/* The six counts that close a plan. */
+/* The seven counts that close a plan. They stop at 2^64 - 1. */
 struct ribaltzen_totals {
     uint64_t detail_cells, detail_objects;
     uint64_t culled_references, skipped_references;
     uint64_t culled_batches, skipped_batches;
+    uint64_t dropped_proxies; /* boxes that met a full list, which has 100,000 */
 };
 
 /* The kind says which member of the union holds the record. */
@@ -137,7 +139,7 @@ static inline size_t ribaltzen_record_length(uint64_t kind)
     case RIBALTZEN_TEXT: return 26;
     case RIBALTZEN_POINT: return 26;
     case RIBALTZEN_PROXY: return 42;
-    case RIBALTZEN_TOTALS: return 54;
+    case RIBALTZEN_TOTALS: return 62;
     default: return 0;
     }
 }
@@ -182,6 +184,7 @@ static inline struct ribaltzen_totals ribaltzen_totals_at(const uint8_t *at)
     totals.skipped_references = ribaltzen_field(at + 24, 8);
     totals.culled_batches = ribaltzen_field(at + 32, 8);
     totals.skipped_batches = ribaltzen_field(at + 40, 8);
+    totals.dropped_proxies = ribaltzen_field(at + 48, 8);
     return totals;
 }
 

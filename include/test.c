@@ -45,6 +45,7 @@ int main(int count, char **arguments)
     test_stored(arguments[3]);
     test_tape();
     test_damage();
+    test_full();
     test_floats();
     puts(failed ? "the headers' test failed" : "the headers' test passed");
     return failed;

@@ -96,6 +96,7 @@ void test_finder(void);
 void test_stored(const char *cases);
 void test_tape(void);
 void test_damage(void);
+void test_full(void);
 void test_floats(void);
 
 #endif

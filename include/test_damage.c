@@ -63,7 +63,7 @@ static enum ribaltzen_damage damage_of(size_t place, const uint8_t *record)
 /* Every prefix of a tape, and every change of one byte to any other. */
 static void test_cut_and_changed(const uint8_t *tape, size_t length)
 {
-    static const size_t lengths[6] = { 58, 26, 26, 26, 42, 54 }; /* a batch, a text, two points, a proxy, the totals */
+    static const size_t lengths[6] = { 58, 26, 26, 26, 42, 62 }; /* a batch, a text, two points, a proxy, the totals */
     size_t at = 0, index, place, value;
     for (index = 0; index < 6; index++) {
         for (place = 0; place < lengths[index]; place++) {
@@ -109,7 +109,7 @@ static void test_other_ends(const uint8_t *tape, size_t length)
 /* Up to 12 records with random bodies, most heads right and the last mostly totals. */
 static struct bytes hostile_tape(void)
 {
-    static const size_t lengths[5] = { 58, 26, 26, 42, 54 };
+    static const size_t lengths[5] = { 58, 26, 26, 42, 62 };
     struct bytes tape = { { 0 }, 0 };
     size_t left = random_below(12), kind, end;
     do {
@@ -154,7 +154,7 @@ void test_damage(void)
 {
     struct bytes sheet = sheet_of_every_kind();
     struct lent lent;
-    expect(plan(&sheet, 4, 1.0, &lent) == RIBALTZEN_PLANNED && lent.length == 232, "a tape to damage");
+    expect(plan(&sheet, 4, 1.0, &lent) == RIBALTZEN_PLANNED && lent.length == 240, "a tape to damage");
     test_cut_and_changed(lent.out, lent.length);
     test_other_ends(lent.out, lent.length);
     test_hostile_tapes();

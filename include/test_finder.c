@@ -447,7 +447,7 @@ void test_finder(void)
     struct bytes sheet = mixed_sheet();
     struct asked asked = about(&sheet);
     struct call call = plan_by(&asked, mixed_places, 8, &ample);
-    expect(call.number == RIBALTZEN_PLANNED && call.length == 2 * 58 + 4 * 26 + 42 + 54, "records of every kind");
+    expect(call.number == RIBALTZEN_PLANNED && call.length == 2 * 58 + 4 * 26 + 42 + 62, "records of every kind");
     give_back(&call);
     expect(RIBALTZEN_MOST_PLACES == 645277, "the most places");
     test_opening();

@@ -61,7 +61,7 @@ static struct ribaltzen_text text_under(const struct placed *placed, unsigned en
     number = plan(&sheet, 4, 1.0, &lent);
     after = _mm_getcsr();
     _mm_setcsr(before);
-    expect(number == RIBALTZEN_PLANNED && lent.length == 80, "the text and the totals are listed");
+    expect(number == RIBALTZEN_PLANNED && lent.length == 88, "the text and the totals are listed");
     expect((after & ~FLAGS) == (MASKED | environment), "a call leaves the environment as it is");
     memset(&record, 0, sizeof record);
     cursor = ribaltzen_records(lent.out, lent.length);

@@ -107,7 +107,7 @@ struct bytes worked_sheet(void)
     return sheet;
 }
 
-/* "text 0 4024000000000000 4034000000000000", "totals 1 1 0 0 0 0" */
+/* "text 0 4024000000000000 4034000000000000", "totals 1 1 0 0 0 0 0" */
 struct bytes worked_tape(void)
 {
     struct bytes tape = { { 0 }, 0 };
@@ -116,8 +116,8 @@ struct bytes worked_tape(void)
     put(&tape, 0, 4);
     put(&tape, 0x4024000000000000u, 8);
     put(&tape, 0x4034000000000000u, 8);
-    put_head(&tape, 54, 15);
-    for (i = 0; i < 6; i++) {
+    put_head(&tape, 62, 15);
+    for (i = 0; i < 7; i++) {
         put(&tape, i < 2, 8);
     }
     return tape;

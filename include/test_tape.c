@@ -25,14 +25,15 @@ static void test_records(const uint8_t *tape, size_t length)
                && record.of.proxy.min_x == 70.0 && record.of.proxy.min_y == 80.0 && record.of.proxy.max_x == 72.0
                && record.of.proxy.max_y == 83.0, "the proxy");
     expect(ribaltzen_next(&cursor, &record) == 1 && record.kind == RIBALTZEN_TOTALS
-               && record.of.totals.detail_cells == 1 && record.of.totals.detail_objects == 4, "the totals");
+               && record.of.totals.detail_cells == 1 && record.of.totals.detail_objects == 4
+               && record.of.totals.dropped_proxies == 0, "the totals");
     expect(ribaltzen_next(&cursor, &record) == 0 && cursor.offset == length, "the end");
 }
 
 /* A tape with one record of each kind, in which the byte at place p of a body is p. */
 static struct bytes counting_tape(void)
 {
-    static const size_t lengths[5] = { 58, 26, 26, 42, 54 };
+    static const size_t lengths[5] = { 58, 26, 26, 42, 62 };
     struct bytes tape = { { 0 }, 0 };
     uint16_t kind;
     size_t place;
@@ -88,6 +89,7 @@ static void test_fields(void)
     EXPECT_FIELD(totals.skipped_references, 30);
     EXPECT_FIELD(totals.culled_batches, 38);
     EXPECT_FIELD(totals.skipped_batches, 46);
+    EXPECT_FIELD(totals.dropped_proxies, 54);
     expect(ribaltzen_next(&cursor, &record) == 0, "the end of the counting tape");
 #undef EXPECT_FIELD
 }

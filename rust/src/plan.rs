@@ -94,7 +94,7 @@ mod tests {
         let tape = tape();
         assert_eq!(Plan::new(&tape).records().count(), 2);
         assert_eq!(Plan::new(&tape).totals(), Totals::default());
-        assert_eq!(format!("{:?}", Plan::new(&tape)), "Plan { tape: 80 }");
+        assert_eq!(format!("{:?}", Plan::new(&tape)), "Plan { tape: 88 }");
     }
 
     #[test]

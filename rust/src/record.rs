@@ -11,10 +11,10 @@ pub(crate) mod length {
     pub const TEXT: usize = 26;
     pub const POINT: usize = 26;
     pub const PROXY: usize = 42;
-    pub const TOTALS: usize = 54;
+    pub const TOTALS: usize = 62;
 }
 
-/// The six counts that close a plan. They stop at 2^64 − 1.
+/// The seven counts that close a plan. They stop at 2^64 − 1.
 #[derive(Clone, Copy, Debug, Default, PartialEq, Eq)]
 pub struct Totals {
     /// Cells that were opened.
@@ -29,6 +29,8 @@ pub struct Totals {
     pub culled_batches: u64,
     /// Batches under one pixel in width and in height, or of no finite size.
     pub skipped_batches: u64,
+    /// Proxies that met a full list, which has 100,000.
+    pub dropped_proxies: u64,
 }
 
 /// One record of a plan. Numbers are those of the sheet's records, from 0 within their kind: [`crate::Sheet`] finds them.
@@ -106,6 +108,7 @@ impl Record {
                 skipped_references: fields.u64()?,
                 culled_batches: fields.u64()?,
                 skipped_batches: fields.u64()?,
+                dropped_proxies: fields.u64()?,
             }),
             _ => return Err(Damage::Kind),
         };
@@ -155,13 +158,14 @@ impl fmt::Display for Totals {
     fn fmt(&self, f: &mut fmt::Formatter) -> fmt::Result {
         write!(
             f,
-            "totals {} {} {} {} {} {}",
+            "totals {} {} {} {} {} {} {}",
             self.detail_cells,
             self.detail_objects,
             self.culled_references,
             self.skipped_references,
             self.culled_batches,
-            self.skipped_batches
+            self.skipped_batches,
+            self.dropped_proxies
         )
     }
 }

@@ -27,7 +27,8 @@ pub struct Records<'a> {
 }
 
 impl<'a> Records<'a> {
-    /// The records of a tape that was stored or sent. For one that was just planned see [`crate::Plan::records`].
+    /// The records of a tape that was stored or sent. For one that was just planned see [`crate::Plan::records`]. One
+    /// that a version before 0.6 wrote is damaged at its totals, which had six counts.
     pub fn new(tape: &'a [u8]) -> Self {
         Self {
             tape,

@@ -168,7 +168,7 @@ fn the_own_finder_changes_nothing() {
             },
             AMPLE,
         ),
-        (0, Query { depth: 0, ..QUERY }, [96, 0, 4]),
+        (0, Query { depth: 0, ..QUERY }, [104, 0, 4]),
         (
             8,
             Query {
@@ -181,7 +181,7 @@ fn the_own_finder_changes_nothing() {
         (10, Query { depth: 33, ..QUERY }, AMPLE),
         (11, QUERY, [400, 7, 20]),
         (11, QUERY, [400, 20, 11]),
-        (12, QUERY, [315, 20, 20]),
+        (12, QUERY, [323, 20, 20]),
     ];
     let longer = [&MIXED[..], &[7, 0, u32::MAX]].concat();
     for (number, query, sizes) in calls {
@@ -242,7 +242,7 @@ fn the_finder_of_another_sheet_is_turned_away() {
         assert_eq!(refusal, wrong_finder(None));
     }
     let planned = buffers.plan_with_finder(&one, &finder, &QUERY).unwrap();
-    assert_eq!(planned.tape().len(), 2 * 58 + 4 * 26 + 42 + 54);
+    assert_eq!(planned.tape().len(), 2 * 58 + 4 * 26 + 42 + 62);
 }
 
 /// A sheet that was changed after it was opened: where its records stay it is planned as it is now, else turned away.
@@ -279,7 +279,7 @@ fn the_output_grows() {
     };
     let mut buffers = Buffers::with_sizes(0, 2, 4);
     let planned = buffers.plan_with_finder(&sheet, &finder, &query).unwrap();
-    assert_eq!(planned.tape().len(), 50 * 26 + 54);
+    assert_eq!(planned.tape().len(), 50 * 26 + 62);
     assert_eq!(planned, Buffers::new().plan(&sheet, &query).unwrap());
 }
 

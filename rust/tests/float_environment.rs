@@ -100,7 +100,7 @@ fn it_belongs_to_the_thread_and_is_inherited() {
 fn debug_builds_ask() {
     let sheet = worked();
     let finder = Finder::open(&sheet).unwrap();
-    let memory = || Buffers::with_sizes(80, 1, 3);
+    let memory = || Buffers::with_sizes(88, 1, 3);
     asks(|| Finder::open(&sheet).is_ok());
     asks(|| plan(&sheet, &QUERY, memory().lend()).is_ok());
     asks(|| memory().plan_with_finder(&sheet, &finder, &QUERY).is_ok());
@@ -121,7 +121,7 @@ fn asks(call: impl Fn() -> bool + Sync) {
 
 /// Where the library places the only text of a sheet, under a float environment.
 fn text_under(word: u32, sheet: &[u8]) -> [f64; 2] {
-    let (mut out, mut counts, mut marks) = ([0u8; 80], [0u64; 6], [0u8; 10]);
+    let (mut out, mut counts, mut marks) = ([0u8; 88], [0u64; 6], [0u8; 10]);
     let (mut offset, mut length) = (0, 0);
     let hidden: [u32; 0] = [];
     let view = QUERY.view;

@@ -19,7 +19,7 @@ fn records(sheet: &[u8], query: &Query) -> Vec<Record> {
 
 #[test]
 fn worked_example() {
-    let mut buffers = Buffers::with_sizes(80, 1, 1);
+    let mut buffers = Buffers::with_sizes(88, 1, 1);
     let sheet = worked();
     let plan = plan(&sheet, &QUERY, buffers.lend()).unwrap();
     let totals = Totals {
@@ -33,12 +33,12 @@ fn worked_example() {
     };
     let listed: Vec<Record> = plan.records().collect();
     assert_eq!(listed, [text, Record::Totals(totals)]);
-    assert_eq!((plan.totals(), plan.tape().len()), (totals, 80));
+    assert_eq!((plan.totals(), plan.tape().len()), (totals, 88));
 }
 
 #[test]
 fn empty_sheet_gives_totals_only() {
-    let mut buffers = Buffers::with_sizes(54, 0, 1);
+    let mut buffers = Buffers::with_sizes(62, 0, 1);
     let plan = plan(b"", &QUERY, buffers.lend()).unwrap();
     assert_eq!(
         plan.records().collect::<Vec<_>>(),
@@ -134,13 +134,13 @@ fn a_row_of_nodes_that_runs_out_is_boxed_as_a_whole() {
 
 #[test]
 fn a_plan_leaves_the_rest_as_lent() {
-    let (mut out, mut counts, mut marks) = ([7u8; 90], [7u64; 3], [7u8; 5]);
+    let (mut out, mut counts, mut marks) = ([7u8; 98], [7u64; 3], [7u8; 5]);
     let lent = Lent {
         out: &mut out,
         counts: &mut counts,
         marks: &mut marks,
     };
     plan(&worked(), &QUERY, lent).unwrap();
-    assert_eq!(out[80..], [7; 10]);
+    assert_eq!(out[88..], [7; 10]);
     assert_eq!((counts, marks), ([0, 7, 7], [0, 0, 0, 7, 7]));
 }

@@ -101,30 +101,30 @@ fn refusal(number: u32, offset: usize, needed: Option<usize>) -> Refusal {
 fn number_11_touches_nothing() {
     let short = Some(refusal(11, 0, None));
     assert_eq!(
-        with_sizes(80, 0, 3),
-        (short, vec![7; 80], vec![], vec![7; 3])
+        with_sizes(88, 0, 3),
+        (short, vec![7; 88], vec![], vec![7; 3])
     );
     assert_eq!(
-        with_sizes(80, 1, 2),
-        (short, vec![7; 80], vec![7], vec![7; 2])
+        with_sizes(88, 1, 2),
+        (short, vec![7; 88], vec![7], vec![7; 2])
     );
-    assert_eq!(with_sizes(80, 1, 3).0, None);
+    assert_eq!(with_sizes(88, 1, 3).0, None);
 }
 
 #[test]
 fn number_12_zeroes_the_output_and_says_what_is_needed() {
-    for out in 0..80 {
+    for out in 0..88 {
         assert_eq!(
             with_sizes(out, 2, 4),
             (
-                Some(refusal(12, 0, Some(80))),
+                Some(refusal(12, 0, Some(88))),
                 vec![0; out],
                 vec![0, 7],
                 vec![0, 0, 0, 7]
             )
         );
     }
-    assert_eq!(with_sizes(80, 2, 4).0, None);
+    assert_eq!(with_sizes(88, 2, 4).0, None);
 }
 
 #[test]
@@ -138,8 +138,8 @@ fn a_refusal_says_what_was_asked() {
         "refused with number 10: Is depth at most 32? No."
     );
     assert_eq!(
-        refusal(12, 0, Some(80)).to_string(),
-        "refused with number 12: Does the whole tape fit the lent output? No, the tape has 80 bytes."
+        refusal(12, 0, Some(88)).to_string(),
+        "refused with number 12: Does the whole tape fit the lent output? No, the tape has 88 bytes."
     );
     assert_eq!(
         refusal(13, 0, None).to_string(),

@@ -6,7 +6,7 @@ use ribaltzen::{Buffers, Damage, Damaged, Query, Record, Records, Totals, WorldB
 use sheets::{floats, of_every_kind, record};
 
 /// A batch, a text, two points, a proxy, the totals.
-const LENGTHS: [usize; 6] = [58, 26, 26, 26, 42, 54];
+const LENGTHS: [usize; 6] = [58, 26, 26, 26, 42, 62];
 
 fn tape() -> Vec<u8> {
     let query = Query::new(0, 4, WorldBBox::new(0.0, 0.0, 100.0, 100.0), 1.0);
@@ -80,7 +80,7 @@ fn every_changed_head_is_reported() {
 
 #[test]
 fn each_damage_by_its_name() {
-    let totals = record(15, &[0; 48]);
+    let totals = record(15, &[0; 56]);
     let before = |bytes: &[u8]| read(&[bytes, &totals].concat());
     assert_eq!(read(b""), (0, damaged(0, Damage::NoTotals)));
     assert_eq!(
@@ -90,12 +90,12 @@ fn each_damage_by_its_name() {
     assert_eq!(before(&[0xff; 6]), (0, damaged(0, Damage::Length)));
     assert_eq!(before(&record(10, &[0; 20])), (0, damaged(0, Damage::Kind)));
     assert_eq!(before(&record(16, &[0; 20])), (0, damaged(0, Damage::Kind)));
-    assert_eq!(before(&totals), (1, damaged(54, Damage::AfterTotals)));
+    assert_eq!(before(&totals), (1, damaged(62, Damage::AfterTotals)));
 }
 
 #[test]
 fn each_kind_has_one_length() {
-    for (kind, right) in [(11, 58), (12, 26), (13, 26), (14, 42), (15, 54)] {
+    for (kind, right) in [(11, 58), (12, 26), (13, 26), (14, 42), (15, 62)] {
         for length in 6..=70 {
             let tape = record(kind, &vec![0; length - 6]);
             let first = Records::new(&tape).next().expect("a record or its damage");
@@ -110,7 +110,7 @@ fn records_print_how_far_they_are() {
     let tape = tape();
     let mut records = Records::new(&tape);
     records.nth(1);
-    assert_eq!(format!("{records:?}"), "Records { tape: 232, offset: 84 }");
+    assert_eq!(format!("{records:?}"), "Records { tape: 240, offset: 84 }");
 }
 
 #[test]
@@ -123,12 +123,12 @@ fn damage_says_where_and_what() {
     );
 }
 
-/// What a tape of no plan at hand shows: a proxy without a label, and six different totals.
+/// What a tape of no plan at hand shows: a proxy without a label, and seven different totals.
 #[test]
 fn labels_and_totals_are_read() {
     let label = [0xff; 4];
     let bbox = floats(&[-0.0, f64::INFINITY, 1.0, -1.0]);
-    let counts: Vec<u8> = (1..=6).flat_map(u64::to_le_bytes).collect();
+    let counts: Vec<u8> = (1..=7).flat_map(u64::to_le_bytes).collect();
     let tape = [
         record(14, &[&label, &bbox[..]].concat()),
         record(15, &counts),
@@ -146,13 +146,14 @@ fn labels_and_totals_are_read() {
         skipped_references: 4,
         culled_batches: 5,
         skipped_batches: 6,
+        dropped_proxies: 7,
     };
     assert_eq!(records, [proxy, Record::Totals(totals)]);
     assert_eq!(
         [proxy.to_string(), totals.to_string()],
         [
             "proxy none 8000000000000000 7ff0000000000000 3ff0000000000000 bff0000000000000",
-            "totals 1 2 3 4 5 6"
+            "totals 1 2 3 4 5 6 7"
         ]
     );
 }
@@ -172,7 +173,7 @@ fn each_record_prints_its_line() {
             "point 3 9 3ff0000000000000 4000000000000000",
             "point 3 9 4008000000000000 4010000000000000",
             "proxy 1 4051800000000000 4054000000000000 4052000000000000 4054c00000000000",
-            "totals 1 4 0 0 0 0",
+            "totals 1 4 0 0 0 0 0",
         ]
     );
 }

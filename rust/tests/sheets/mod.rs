@@ -60,8 +60,13 @@ pub fn row(columns: u16, source: (u16, u32), origin: [f64; 2], bbox: [f64; 4]) -
 
 /// A cell with one direct draw unit: its box, and the numbers of its batches, texts, nodes and references.
 pub fn cell(bbox: Option<[f64; 4]>, lists: [&[u32]; 4]) -> Vec<u8> {
+    cell_of_units(1, bbox, lists)
+}
+
+/// The same with so many direct draw units.
+pub fn cell_of_units(units: u64, bbox: Option<[f64; 4]>, lists: [&[u32]; 4]) -> Vec<u8> {
     let mut body = halves(&[u16::from(bbox.is_some())]);
-    body.extend(1u64.to_le_bytes());
+    body.extend(units.to_le_bytes());
     body.extend(floats(&bbox.unwrap_or_default()));
     body.extend(halves(&lists.map(|list| list.len() as u16)));
     body.extend(

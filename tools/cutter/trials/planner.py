@@ -65,30 +65,30 @@ NEAR = "root=0 depth=8 view=0,0,9,9 zoom=1"
 ROOT_1 = "root=1 depth=8 view=0,0,9,9 zoom=1"
 FACTS = [
     ("a reference without a source box", ROOT_1, TEXT + "cell texts=0\nreference source=cell:0 at=0,0 box=none\ncell references=0",
-     "totals 1 0 0 0 0 0"),
+     "totals 1 0 0 0 0 0 0"),
     ("a cell of 40 by 40 pixels", "root=1 depth=8 view=0,0,99,99 zoom=1",
-     SHAPE % (40, 40) + "cell batches=0\nreference source=cell:0 at=0,0\ncell references=0", "batch 0, totals 2 1 0 0 0 0"),
+     SHAPE % (40, 40) + "cell batches=0\nreference source=cell:0 at=0,0\ncell references=0", "batch 0, totals 2 1 0 0 0 0 0"),
     ("the same with 200 draw units that have no box", "root=1 depth=8 view=0,0,99,99 zoom=1",
      SHAPE % (40, 40) + "reference source=cell:9 at=0,0 columns=20 rows=10\ncell batches=0 references=0\n"
-     "reference source=cell:0 at=0,0\ncell references=1", "proxy 0, totals 1 0 0 0 0 0"),
+     "reference source=cell:0 at=0,0\ncell references=1", "proxy 0, totals 1 0 0 0 0 0 0"),
     ("the same with 200 empty cells in their place", "root=2 depth=8 view=0,0,99,99 zoom=1",
      SHAPE % (40, 40) + "cell\nreference source=cell:0 at=0,0 columns=20 rows=10\ncell batches=0 references=0\n"
-     "reference source=cell:1 at=0,0\ncell references=1", "batch 0, totals 2 1 0 0 0 0"),
+     "reference source=cell:1 at=0,0\ncell references=1", "batch 0, totals 2 1 0 0 0 0 0"),
     ("a reference to a cell without a box", ROOT_1, TEXT + "cell box=none texts=0\nreference source=cell:0 at=0,0\ncell references=0",
-     "totals 1 0 0 0 0 0"),
+     "totals 1 0 0 0 0 0 0"),
     ("the same with a source box by hand", ROOT_1,
-     TEXT + "cell box=none texts=0\nreference source=cell:0 at=0,0 box=0,0,50,50\ncell references=0", "text 0, totals 2 1 0 0 0 0"),
-    ("a root without a box", NEAR, TEXT + "cell box=none texts=0", "text 0, totals 1 1 0 0 0 0"),
-    ("at depth 0", NEAR.replace("depth=8", "depth=0"), TEXT + "cell box=none texts=0", "totals 0 0 0 0 0 0"),
-    ("a root with a box, at depth 0", NEAR.replace("depth=8", "depth=0"), TEXT + "cell texts=0", "proxy 0, totals 0 0 0 0 0 0"),
-    ("a box that is too small", NEAR, TEXT + "cell box=20,20,30,30 texts=0", "totals 0 0 0 0 0 0"),
-    ("a missing cell", NEAR, "reference source=cell:7 at=0,0\ncell references=0", "totals 1 0 0 0 0 0"),
+     TEXT + "cell box=none texts=0\nreference source=cell:0 at=0,0 box=0,0,50,50\ncell references=0", "text 0, totals 2 1 0 0 0 0 0"),
+    ("a root without a box", NEAR, TEXT + "cell box=none texts=0", "text 0, totals 1 1 0 0 0 0 0"),
+    ("at depth 0", NEAR.replace("depth=8", "depth=0"), TEXT + "cell box=none texts=0", "totals 0 0 0 0 0 0 0"),
+    ("a root with a box, at depth 0", NEAR.replace("depth=8", "depth=0"), TEXT + "cell texts=0", "proxy 0, totals 0 0 0 0 0 0 0"),
+    ("a box that is too small", NEAR, TEXT + "cell box=20,20,30,30 texts=0", "totals 0 0 0 0 0 0 0"),
+    ("a missing cell", NEAR, "reference source=cell:7 at=0,0\ncell references=0", "totals 1 0 0 0 0 0 0"),
     ("a missing cell with a box", NEAR, "reference source=cell:7 at=0,0 box=0,0,5,5\ncell references=0",
-     "proxy 7, totals 1 0 0 0 0 0"),
+     "proxy 7, totals 1 0 0 0 0 0 0"),
     ("a lone reference under a pixel", ROOT_1.replace("zoom=1", "zoom=0.01"),
-     SHAPE % (9, 9) + "cell batches=0\nreference source=cell:0 at=0,0\ncell references=0", "proxy 0, totals 1 0 0 0 0 0"),
-    ("a batch on one point", NEAR.replace("zoom=1", "zoom=1e30"), SHAPE % (0, 0) + "cell batches=0", "totals 1 0 0 0 0 1"),
-    ("a batch of no width", NEAR, SHAPE % (0, 1) + "cell batches=0", "batch 0, totals 1 1 0 0 0 0"),
+     SHAPE % (9, 9) + "cell batches=0\nreference source=cell:0 at=0,0\ncell references=0", "proxy 0, totals 1 0 0 0 0 0 0"),
+    ("a batch on one point", NEAR.replace("zoom=1", "zoom=1e30"), SHAPE % (0, 0) + "cell batches=0", "totals 1 0 0 0 0 1 0"),
+    ("a batch of no width", NEAR, SHAPE % (0, 1) + "cell batches=0", "batch 0, totals 1 1 0 0 0 0 0"),
     ("number 4, columns", NEAR, "reference source=cell:0 at=0,0 columns=32768", "refused 4 0"),
     ("number 4, cell FFFFFFFF", NEAR, "reference source=cell:4294967295 at=0,0", "refused 4 0"),
     ("number 7", NEAR, "cell\n" * 4097, "refused 7 0"),
@@ -108,7 +108,7 @@ def try_facts(plan):
     for what, query, sheet, expected in FACTS:
         same(what, shortened(printed(plan, "query %s\n%s" % (query, sheet))), expected)
     many = TEXT + "cell %s texts=" + ",".join(["0"] * 10001)
-    for words, last in (("", "proxy 0, totals 1 10000 0 0 0 0"), ("box=none", "text 0, totals 1 10000 0 0 0 0")):
+    for words, last in (("", "proxy 0, totals 1 10000 0 0 0 0 0"), ("box=none", "text 0, totals 1 10000 0 0 0 0 0")):
         lines = printed(plan, "query %s\n%s" % (NEAR, many % words)).splitlines()[-2:]
         same("10,001 texts in a cell with %s" % words, shortened("\n".join(lines)), last)
 
@@ -118,7 +118,7 @@ def try_zoom(plan):
     sheet = (SHAPE % (1, 1) + SHAPE % (1, 1) + TEXT.replace("5,5", "1,1") + "node layer=2 type=0 points=1,1\n"
              "cell batches=1\nreference source=cell:0 at=0,0\nreference source=text:0 at=0,0\n"
              "cell batches=0 texts=0 nodes=0 references=0,1")
-    listed, skipped = "batch 0, text 0, point 2, batch 1, text 0, totals 2 5 0 0 0 0", "text 0, point 2, text 0, totals 1 3 0 1 0 1"
+    listed, skipped = "batch 0, text 0, point 2, batch 1, text 0, totals 2 5 0 0 0 0 0", "text 0, point 2, text 0, totals 1 3 0 1 0 1 0"
     infinite = 2.0**128 - 2.0**103
     zooms = {2.0**64: listed, 2.0**100: listed, 2.0**127: listed, math.nextafter(infinite, 0): listed,
              infinite: skipped, 2.0**128: skipped, 1e300: skipped}
@@ -146,7 +146,7 @@ def try_page(plan):
 def try_sites(plan):
     """The field of samples/sites.txt at two more zooms: its sites of 3 pixels are boxed one by one, those of 24 entered."""
     sample = file_text("samples", "sites.txt")
-    for zoom, proxies, totals in (("1", 4096, "totals 8 12 0 0 0 0"), ("8", 0, "totals 4104 12 0 0 0 0")):
+    for zoom, proxies, totals in (("1", 4096, "totals 8 12 0 0 0 0 0"), ("8", 0, "totals 4104 12 0 0 0 0 0")):
         lines = printed(plan, sample.replace("zoom=0.25", "zoom=" + zoom)).splitlines()
         same("boxed sites at zoom " + zoom, sum(line.startswith("proxy 0 ") for line in lines), proxies)
         same("totals at zoom " + zoom, lines[-1], totals)
@@ -170,6 +170,21 @@ def try_nodes(plan):
         same("a limit " + what, [line.split()[:2] for line in lines[20000:]], [["proxy", "none"]] * proxies + [["totals", "1"]])
 
 
+def try_full(plan):
+    """The list of proxies that is full: the end of its plan as the page shows it. Then fields of 5,000 marks: 20 fill the list, and a
+    further field and the name behind the fields each call for one proxy more."""
+    sample = file_text("samples", "full.txt")
+    lines = printed(plan, sample).splitlines(keepends=True)
+    same("proxies of full.txt", sum(line.startswith("proxy 0 ") for line in lines), 100000)
+    same("full.txt, the end in docs/SHEETS.md", "".join("    " + line for line in lines[99999:]),
+         blocks_behind(file_text("docs", "SHEETS.md"), "full.txt")[0])
+    half = sample.replace("4200,1000", "13000,1000").replace("columns=100 rows=80", "columns=100 rows=50")
+    for fields, listed, dropped in ((20, "1", 0), (20, "1,2", 1), (21, "1", 1), (21, "1,2", 2)):
+        filled = half.replace("columns=7 rows=2", "columns=%d rows=1" % fields).replace("references=1,2", "references=" + listed)
+        lines = printed(plan, filled).splitlines()
+        same("%d fields, references %s" % (fields, listed), [len(lines), lines[-1]], [100001, "totals 21 0 0 0 0 0 %d" % dropped])
+
+
 def run(plan):
     try_boxes(plan, 100)
     try_facts(plan)
@@ -177,3 +192,4 @@ def run(plan):
     try_page(plan)
     try_sites(plan)
     try_nodes(plan)
+    try_full(plan)
