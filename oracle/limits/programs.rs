@@ -44,7 +44,7 @@ fn of_length(length: usize) -> Vec<u8> {
     bytes
 }
 
-const WORKED: &str = "text 0 4024000000000000 4034000000000000\ntotals 1 1 0 0 0 0\n";
+const WORKED: &str = "text 0 4024000000000000 4034000000000000\ntotals 1 1 0 0 0 0 0\n";
 const INTERRUPTED: i32 = 4;
 
 /// A run: what it shows, the input, how reads and writes go wrong, and the checksum of the text that is printed.
@@ -73,7 +73,7 @@ fn at_buffers() -> Vec<Program> {
     let cases = [
         ("an input of 1,310,720 bytes", of_length(1_310_720), WORKED),
         ("an input of 1,310,721 bytes", of_length(1_310_721), "too long\n"),
-        ("50,410 texts and no cell", [query(0), text(0).repeat(50_410)].concat(), "totals 0 0 0 0 0 0\n"),
+        ("50,410 texts and no cell", [query(0), text(0).repeat(50_410)].concat(), "totals 0 0 0 0 0 0 0\n"),
         ("50,407 texts and a cell that lists the last", [query(0), sheet_of_texts(50_407)].concat(), &listed),
         ("16,384 hidden layers", layers(16_384), WORKED),
         ("16,385 hidden layers", layers(16_385), "too long\n"),

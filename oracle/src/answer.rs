@@ -41,6 +41,13 @@ pub struct Outcome {
     pub run: Option<Run>,
 }
 
+impl Outcome {
+    /// How many proxies the plan dropped.
+    pub fn dropped(&self) -> u64 {
+        self.run.as_ref().map_or(0, |run| run.record.dropped)
+    }
+}
+
 #[derive(Clone, Copy, Debug, PartialEq, Eq)]
 pub enum End {
     TooLong,

@@ -6,7 +6,7 @@ use std::path::Path;
 
 use crate::answer::Outcome;
 use crate::checksum::fnv1a;
-use crate::coverage::{Coverage, tags};
+use crate::coverage::{Coverage, MostDropped, tags};
 use crate::edits::{ALTERATIONS, Edit, PIECES, SUBSTITUTIONS, instrument::INSTRUMENT, planted};
 use crate::events::{OutOfFuel, fuel_left, set_fuel};
 use crate::generator::{FAMILIES, Family, edges, family, faults, large::LARGE, make, make_edge, make_large};
@@ -49,6 +49,7 @@ pub fn fresh_cases<'a>(
     seed: u64,
     each: u64,
     coverage: &mut Coverage,
+    most: &mut MostDropped,
 ) -> (u64, u64) {
     let (mut run, mut passed_over) = (0, 0);
     for family in families {
@@ -56,6 +57,7 @@ pub fn fresh_cases<'a>(
             match fresh(family, seed) {
                 Some((_, outcome)) => {
                     coverage.add(&tags(&outcome));
+                    most.see(outcome.dropped(), || format!("{} seed {seed}", family.name));
                     run += 1;
                 }
                 None => passed_over += 1,
@@ -67,8 +69,8 @@ pub fn fresh_cases<'a>(
 
 /// Coverage of hand-made, fresh, large and lent cases together.
 pub fn coverage(seed: u64, each: u64) {
-    let mut coverage = Coverage::default();
-    let (run, passed_over) = fresh_cases(FAMILIES, seed, each, &mut coverage);
+    let (mut coverage, mut most, mut most_of_large) = (Coverage::default(), MostDropped::default(), MostDropped::default());
+    let (run, passed_over) = fresh_cases(FAMILIES, seed, each, &mut coverage, &mut most);
     let mut hand = 0;
     let inputs = edges::all().iter().map(make_edge).collect::<Vec<_>>();
     for input in inputs.into_iter().chain(faults::all().into_iter().map(|fault| fault.input)) {
@@ -76,7 +78,9 @@ pub fn coverage(seed: u64, each: u64) {
         hand += 1;
     }
     for large in LARGE {
-        coverage.add(&tags(&answer(&make_large(large))));
+        let outcome = answer(&make_large(large));
+        coverage.add(&tags(&outcome));
+        most_of_large.see(outcome.dropped(), || format!("{} {}", large.name, large.seed));
     }
     let mut subject = Oracle { plan: checked, judge: JUDGE };
     let tally = crate::harness::run(&mut subject, seed, each);
@@ -87,15 +91,15 @@ pub fn coverage(seed: u64, each: u64) {
     }
     coverage.add(&tags(&(JUDGE.program)(checked, &[0; 65], 64)));
     println!("{run} fresh, {hand} by hand, {} large, {} calls on lent memory; {passed_over} passed over as hostile", LARGE.len(), tally.calls);
-    print!("{}", coverage.table());
+    print!("{}{}{}", coverage.table(), most.line("fresh"), most_of_large.line("large"));
 }
 
 /// Coverage of the fresh cases of one family alone.
 pub fn family_coverage(name: &str, seed: u64, each: u64) {
-    let mut coverage = Coverage::default();
-    let (run, passed_over) = fresh_cases(family(name), seed, each, &mut coverage);
+    let (mut coverage, mut most) = (Coverage::default(), MostDropped::default());
+    let (run, passed_over) = fresh_cases(family(name), seed, each, &mut coverage, &mut most);
     println!("{run} fresh of {name}; {passed_over} passed over as hostile");
-    print!("{}", coverage.table());
+    print!("{}{}", coverage.table(), most.line("fresh"));
 }
 
 /// The tags that neither a stored case shows nor, for numbers 11 to 13, a call on lent memory, nor a small buffer.

@@ -17,7 +17,8 @@ pub const TAGS: &[&str] = &[
     "proxy-depth-0", "proxy-cell-limit", "proxy-other-limit", "proxy-circle", "proxy-depth-1",
     "proxy-side", "proxy-grid", "proxy-dense-reference", "proxy-dense-batch",
     "label-cell", "label-none",
-    "limit-cells", "limit-objects", "limit-texts", "limit-proxies", "proxy-dropped", "node-grid-limit",
+    "limit-cells", "limit-objects", "limit-texts", "limit-proxies", "proxy-dropped", "dropped-two-or-more", "dropped-63",
+    "node-grid-limit",
     "culled-reference", "skipped-reference", "culled-batch", "skipped-batch",
     "hidden-layers", "depth-0", "depth-32", "deep-32",
     "absent-box", "zero-columns-or-rows", "reflection", "slanted", "not-finite-zoomed",
@@ -91,6 +92,8 @@ fn run_tags(run: &Run, tags: &mut BTreeSet<&'static str>) {
         (skipped > 0, "skipped-reference"),
         (culled_batches > 0, "culled-batch"),
         (skipped_batches > 0, "skipped-batch"),
+        (run.record.dropped >= 2, "dropped-two-or-more"),
+        (run.record.dropped == 63, "dropped-63"),
         (run.record.ran_out > 0, "node-grid-limit"),
     ];
     tags.extend(met.iter().filter(|tag| tag.0).map(|tag| tag.1));
@@ -203,6 +206,27 @@ pub fn tags(outcome: &Outcome) -> BTreeSet<&'static str> {
         tags.extend(asked.iter().filter(|tag| tag.0).map(|tag| tag.1));
     }
     tags
+}
+
+/// The most proxies that one plan dropped, of those that were seen, and the first case with so many.
+#[derive(Default)]
+pub struct MostDropped {
+    pub proxies: u64,
+    case: String,
+}
+
+impl MostDropped {
+    pub fn see(&mut self, proxies: u64, case: impl FnOnce() -> String) {
+        if proxies > self.proxies {
+            *self = Self { proxies, case: case() };
+        }
+    }
+
+    /// The line that a command prints.
+    pub fn line(&self, of: &str) -> String {
+        let case = if self.proxies > 0 { format!(" ({})", self.case) } else { String::new() };
+        format!("most proxies dropped in one plan, {of}: {}{case}\n", self.proxies)
+    }
 }
 
 /// Number of cases by tag.

@@ -84,6 +84,9 @@ pub struct Record {
     pub paths: Vec<Vec<Step>>,
     /// How many grids of bare node points met a limit inside a member.
     pub ran_out: usize,
+    /// Document 02, Paper 8: how many proxies the rules called for, and how many of these met a full list.
+    pub called: u64,
+    pub dropped: u64,
     /// Where the visit stands.
     pub path: Vec<Step>,
     trace: bool,
@@ -131,6 +134,7 @@ pub struct Lists {
     pub texts: Vec<(u32, [u64; 2])>,
     pub points: BTreeMap<(u16, u16), Vec<[u64; 2]>>,
     pub proxies: Vec<(Option<u32>, [u64; 4])>,
+    /// The six of `SceneStats`. The seventh on the tape is the record's.
     pub totals: [u64; 6],
 }
 

@@ -125,7 +125,7 @@ fn mistake(number: u64) -> &'static edits::planted::Planted {
     edits::planted::all().nth(number as usize - 1).expect("a mistake of that number")
 }
 
-/// A run of so many sheets by brute force must meet every kind of node grid at a limit.
+/// A run of so many sheets by brute force must meet every kind of node grid at a limit, and a plan that drops two proxies.
 const LONG_RUN: u64 = 3_000;
 
 /// Demand 3 by brute force.
@@ -138,6 +138,7 @@ fn cover(seed: u64, count: u64) {
     println!("sheets that show: {:?}", tally.shown);
     println!("sheets by where a node grid met a limit:");
     tally.node_grids.iter().for_each(|(what, sheets)| println!("{sheets:8} {what}"));
+    print!("{}", tally.most_dropped.line("small limits"));
     if let Some(first) = &tally.first {
         println!("first fault: {first}");
     }
@@ -196,13 +197,14 @@ fn quick(folder: &Path) -> ! {
     add("the papers' readings", readings::run());
     add("stored answers", commands::replay(folder));
     let mut coverage = coverage::Coverage::default();
-    let (run, _) = commands::fresh_cases(generator::FAMILIES, 1_000_000, 300, &mut coverage);
+    let mut most = coverage::MostDropped::default();
+    let (run, _) = commands::fresh_cases(generator::FAMILIES, 1_000_000, 300, &mut coverage, &mut most);
     add("fresh cases, both copies alike", (run as usize, 0));
     let tally = brute::search(variants::checked, 1_000_000, LONG_RUN, false);
     add("demand 3 by brute force", ((tally.sheets - tally.faults) as usize, tally.faults as usize));
-    let (kinds, missing) = (brute::node_grids::wanted().len(), tally.missing());
+    let missing = tally.missing();
     missing.iter().for_each(|what| println!("not met by brute force: {what}"));
-    add("node grids at a limit, by kind", (kinds - missing.len(), missing.len()));
+    add("node grids at a limit and dropped proxies, by kind", (brute::wanted() - missing.len(), missing.len()));
     let mut subject = harness::Oracle { plan: variants::copies().instrumented, judge: variants::JUDGE };
     let tally = harness::run(&mut subject, 1_000_000, 3_000);
     add("memory after calls as stated", ((tally.calls - tally.broken) as usize, tally.broken as usize));

@@ -105,13 +105,6 @@ fn cover_sees(number: usize, mistake: &Planted) -> Option<u64> {
     None
 }
 
-/// What the brute force says of a mistake, and whether it sees it.
-fn by_cover(number: usize, mistake: &Planted) -> (String, bool) {
-    let cover = cover_sees(number, mistake);
-    let line = cover.map_or("NOT SEEN by the brute force".into(), |sheets| format!("brute force after {sheets} sheets"));
-    (line, cover.is_some())
-}
-
 /// One line of the report, and whether the mistake was seen as its table says.
 /// Only a whole report asks the large cases for a mistake that no text can show.
 fn report(number: usize, mistake: &Planted, store: &Store, whole: bool) -> (String, bool) {
@@ -125,14 +118,10 @@ fn report(number: usize, mistake: &Planted, store: &Store, whole: bool) -> (Stri
     match mistake.seen {
         Seen::Stored => (stored.clone().unwrap_or("NOT SEEN".into()), stored.is_some()),
         Seen::Cover => {
-            let (cover, seen) = by_cover(number, mistake);
-            let both = stored.is_some() && seen;
+            let cover = cover_sees(number, mistake);
+            let both = stored.is_some() && cover.is_some();
+            let cover = cover.map_or("NOT SEEN by the brute force".into(), |sheets| format!("brute force after {sheets} sheets"));
             (format!("{}, {cover}", stored.unwrap_or("NOT SEEN by a stored case".into())), both)
-        }
-        Seen::Brute => {
-            let (cover, seen) = by_cover(number, mistake);
-            let alone = stored.is_none() && memory_sees(number, mistake) == (false, false);
-            (format!("{cover}{}", if alone { ", nothing else" } else { ", but SEEN by others too" }), seen && alone)
         }
         Seen::Memory => {
             let seen = memory_sees(number, mistake) == (true, true) && stored.is_none();

@@ -1,11 +1,17 @@
 //! Document 01's worked example and "Readings at the edges", as its own sentences have them and document 02's Paper 3 changes
-//! them; what else that paper says; a sheet's finder, worked out by hand from Paper 1; and a node grid that runs out, from
-//! Paper 5. The stored answers are the oracle's; these are the papers', and the oracle must meet them.
+//! them; what else that paper says; a sheet's finder, worked out by hand from Paper 1; a node grid that runs out, from Paper 5;
+//! and proxies that did not fit, from Paper 8. The stored answers are the oracle's; these are the papers', and the oracle must
+//! meet them.
 
 use crate::answer::{Answer, Lent};
-use crate::events::{Limits, Settings, patterns};
+use crate::events::{Limits, Lists, Record, Run, Settings, patterns};
 use crate::generator::encode::{batch_bytes, cell_bytes, grid, node_bytes, reference_bytes, single, text_bytes};
-use crate::generator::{edges, make_edge};
+use crate::generator::boxes::grow_true_boxes;
+use crate::generator::full_list::descent;
+use crate::generator::large::{LARGE, wide};
+use crate::generator::{edges, make_edge, make_large};
+use crate::judge::program::split;
+use crate::judge::{reader, tape};
 use crate::sheet::{Query, Sheet, Source};
 use crate::stored::answer;
 use crate::variants::{JUDGE, checked, copies};
@@ -21,12 +27,12 @@ enum Shows {
 use Shows::{Exactly, Lines, Totals};
 
 const READINGS: &[(&str, Shows)] = &[
-    ("worked example", Exactly("text 0 4024000000000000 4034000000000000\ntotals 1 1 0 0 0 0\n")),
-    ("empty sheet, depth 1", Exactly("totals 0 0 0 0 0 0\n")),
-    ("empty sheet, depth 0", Exactly("totals 0 0 0 0 0 0\n")),
+    ("worked example", Exactly("text 0 4024000000000000 4034000000000000\ntotals 1 1 0 0 0 0 0\n")),
+    ("empty sheet, depth 1", Exactly("totals 0 0 0 0 0 0 0\n")),
+    ("empty sheet, depth 0", Exactly("totals 0 0 0 0 0 0 0\n")),
     // Grid 64 x 128 = 8,192 may expand; 3 x 2,731 = 8,193 collapses.
-    ("grid 64 x 128", Exactly("totals 8193 0 0 0 0 0\n")),
-    ("grid 3 x 2731", Totals("totals 1 0 0 0 0 0")),
+    ("grid 64 x 128", Exactly("totals 8193 0 0 0 0 0 0\n")),
+    ("grid 3 x 2731", Totals("totals 1 0 0 0 0 0 0")),
     ("grid 3 x 2731", Lines("proxy 1 ", 1)),
     // Units 127 are never dense. Units 128 at 64 x 32 px collapse, at 64 x 33 px not.
     ("reference of 127 units at 64 x 31 px", Lines("proxy", 0)),
@@ -38,11 +44,11 @@ const READINGS: &[(&str, Shows)] = &[
     ("batch of 128 at 64 x 32 px", Lines("batch", 0)),
     ("batch of 127 at 64 x 32 px", Lines("batch 0 ", 1)),
     // 0.5 x 0.5 px is skipped, 1 x 0.5 px not. Side 24 px passes, anything below collapses.
-    ("batch at 0.5 x 0.5 px", Exactly("totals 1 0 0 0 0 1\n")),
+    ("batch at 0.5 x 0.5 px", Exactly("totals 1 0 0 0 0 1 0\n")),
     ("batch at 1 x 0.5 px", Lines("batch 0 ", 1)),
-    ("members at 0.5 x 0.5 px", Totals("totals 1 0 0 4 0 0")),
+    ("members at 0.5 x 0.5 px", Totals("totals 1 0 0 4 0 0 0")),
     ("members at 1 x 0.5 px", Lines("proxy 1 ", 4)),
-    ("reference at 24 x 24 px", Exactly("totals 2 0 0 0 0 0\n")),
+    ("reference at 24 x 24 px", Exactly("totals 2 0 0 0 0 0 0\n")),
     ("reference at 23.99999 x 24 px", Lines("proxy 1 ", 1)),
     ("reference at 24 x 23.99999 px", Lines("proxy 1 ", 1)),
     // Count 16,777,217 becomes 16,777,216 as f32; 16,777,219 becomes 16,777,220.
@@ -68,14 +74,14 @@ const READINGS: &[(&str, Shows)] = &[
     // A block of unused sites beside two cells that draw is opened, and so is its field; at query depth 2 the field counts one
     // a member.
     ("block of 676 unused sites and two cells, zoom 0.24, depth 2", Lines("proxy 1 ", 1)),
-    ("block of 676 unused sites and two cells, zoom 0.24, depth 4", Totals("totals 4 4 0 676 0 0")),
+    ("block of 676 unused sites and two cells, zoom 0.24, depth 4", Totals("totals 4 4 0 676 0 0 0")),
     ("block of 676 unused sites and two cells, zoom 0.24, depth 4", Lines("batch 0 ", 2)),
     ("block of 676 unused sites and two cells, zoom 0.8, depth 4", Lines("proxy 2 ", 676)),
-    ("block of 676 unused sites and two cells, zoom 6, depth 4", Totals("totals 680 4 0 0 0 0")),
+    ("block of 676 unused sites and two cells, zoom 6, depth 4", Totals("totals 680 4 0 0 0 0 0")),
     // Depth 0 gives just one proxy if the root has a box that overlaps the view.
     ("one reference, depth 0", Lines("proxy 0 ", 1)),
-    ("one reference out of view, depth 0", Exactly("totals 0 0 0 0 0 0\n")),
-    ("root without a box, depth 0", Exactly("totals 0 0 0 0 0 0\n")),
+    ("one reference out of view, depth 0", Exactly("totals 0 0 0 0 0 0 0\n")),
+    ("root without a box, depth 0", Exactly("totals 0 0 0 0 0 0 0\n")),
     // A circle of cells ends in a proxy if the cell met again has a box, else in nothing.
     ("circle of two cells, box true, depth 5", Lines("proxy 0 ", 2)),
     ("circle of two cells, box false, depth 5", Lines("proxy", 0)),
@@ -135,7 +141,7 @@ fn opened(sheet: &[u8], places: usize, answer: (u32, u32, u64), list: &[u32]) ->
 /// The number that a plan with a finder has, on memory enough for two cells at depth 3.
 fn planned(sheet: &[u8], finder: &[u32], depth: u32) -> u32 {
     let query = Query { depth, zoom: 1.0, ..Query::default() };
-    let mut lent = Lent { finder: Some(finder.to_vec()), output: vec![9; 54], counts: vec![9; 6], marks: vec![9; 10] };
+    let mut lent = Lent { finder: Some(finder.to_vec()), output: vec![9; 62], counts: vec![9; 6], marks: vec![9; 10] };
     (JUDGE.call)(checked, sheet, &query, &mut lent).number
 }
 
@@ -185,12 +191,61 @@ fn node_grid() -> [(&'static str, bool); 7] {
     ]
 }
 
+/// How many proxies a plan calls for, lists and drops, with a list of so many.
+type Calls = (u64, usize, u64);
+
+fn calls(sheet: &Sheet, query: &Query, list: usize) -> Calls {
+    let limits = Limits { proxies: list, ..Limits::DOCUMENT };
+    let run = checked(sheet, query, Settings { limits, trace: false });
+    (run.record.called, run.lists.proxies.len(), run.record.dropped)
+}
+
+fn calls_of_large(name: &str, seed: u64, list: usize) -> Calls {
+    let large = LARGE.iter().find(|large| large.name == name && large.seed == seed).expect("a large case of that name");
+    let input = make_large(large);
+    let (query, start) = split(&input).expect("a query");
+    calls(&reader::open(&input[start..]).expect("a sound sheet"), &query, list)
+}
+
+/// Where the list holds one proxy, a descent of cells that all go on drops a box a cell and, but for the last, one a reference.
+fn drops_two_a_level() -> bool {
+    let mut sheet = descent(0, 63);
+    grow_true_boxes(&mut sheet);
+    (1..=32).all(|depth| calls(&sheet, &wide(depth), 1) == (2 * u64::from(depth), 1, 2 * u64::from(depth) - 1))
+}
+
+/// "Their record has 62 bytes", and the seventh count stands last.
+fn totals_record() -> bool {
+    let mut run = Run { lists: Lists::default(), record: Record::default() };
+    (run.lists.totals, run.record.dropped) = ([1, 2, 3, 4, 5, 6], u64::MAX);
+    let counts = [1, 2, 3, 4, 5, 6, u64::MAX].map(u64::to_le_bytes).concat();
+    tape::write(&run) == [&[62, 0, 0, 0, 15, 0][..], &counts[..]].concat()
+}
+
+fn dropped() -> [(&'static str, bool); 8] {
+    let list = Limits::DOCUMENT.proxies;
+    let called_for = |count| calls_of_large("proxies called for", count, list);
+    let wanted = |list| calls_of_large("parts that want a box", 100_065, list);
+    [
+        ("the totals' record", totals_record()),
+        ("99,999 proxies called for", called_for(99_999) == (99_999, 99_999, 0)),
+        ("100,000 proxies called for", called_for(100_000) == (100_000, 100_000, 0)),
+        ("100,001 proxies called for", called_for(100_001) == (100_001, 100_000, 1)),
+        ("100,063 proxies called for", called_for(100_063) == (100_063, 100_000, 63)),
+        ("two boxes a level dropped, and one at the last", drops_two_a_level()),
+        // What is no longer visited is not called for.
+        ("100,065 parts that want a box", wanted(list) == (100_001, 100_000, 1)),
+        ("100,065 parts that want a box, in a longer list", wanted(usize::MAX) == (100_065, 100_065, 0)),
+    ]
+}
+
 /// The numbers passed and failed.
 pub fn run() -> (usize, usize) {
     let edges = edges::all();
     let mut results = vec![("remembered counts", remembered())];
     results.extend(finder());
     results.extend(node_grid());
+    results.extend(dropped());
     for (label, shows) in READINGS {
         let edge = edges.iter().find(|edge| edge.label == *label).expect("a case of that label");
         let text = String::from_utf8(answer(&make_edge(edge)).text).unwrap();

@@ -1,16 +1,16 @@
 //! Demand 3 by brute force: small square sheets with true boxes, every path up to a bound, against the plan's events; and the
-//! sentence of document 02's Paper 5 on them.
+//! sentences of document 02's Papers 5 and 8 on them.
 //! Small limits are given to the instrumented planner, so that small sheets meet all four.
 
 mod check;
 pub mod exact;
-pub mod node_grids;
+mod node_grids;
 mod paths;
 
 use std::collections::{BTreeMap, BTreeSet};
 
 use crate::answer::PlanFn;
-use crate::coverage::cause_tag;
+use crate::coverage::{MostDropped, cause_tag};
 use crate::events::{Event, Limits, Run, Settings};
 use crate::generator::node_grids::at_a_limit;
 use crate::generator::query::near;
@@ -35,13 +35,23 @@ pub struct Tally {
     /// Sheets by what their plans show, and by where a node grid met a limit.
     pub shown: BTreeMap<&'static str, u64>,
     pub node_grids: BTreeMap<String, u64>,
+    pub most_dropped: MostDropped,
     pub first: Option<String>,
 }
 
+/// What a long run must show besides node grids at a limit.
+const TWO_DROPPED: &str = "a plan that drops two proxies";
+
+/// How many kinds of plans a run of some thousand sheets must show.
+pub fn wanted() -> usize {
+    node_grids::wanted().len() + 1
+}
+
 impl Tally {
-    /// The kinds of node grids at a limit that the run did not meet: none in a run of some thousand sheets.
+    /// The kinds that the run did not show: none of a long run.
     pub fn missing(&self) -> Vec<String> {
-        node_grids::wanted().into_iter().filter(|kind| !self.node_grids.contains_key(kind)).collect()
+        let kinds = node_grids::wanted().into_iter().filter(|kind| !self.node_grids.contains_key(kind));
+        kinds.chain((self.most_dropped.proxies < 2).then(|| TWO_DROPPED.to_string())).collect()
     }
 }
 
@@ -135,6 +145,7 @@ fn one(plan: PlanFn, seed: u64, tally: &mut Tally) {
     tally.paths += paths.items.len() as u64;
     tally.circles += u64::from(paths.cut);
     tally.events += run.record.events.len() as u64;
+    tally.most_dropped.see(run.record.dropped, || format!("seed {seed}"));
     for shown in shown(&run) {
         *tally.shown.entry(shown).or_default() += 1;
     }

@@ -1,5 +1,6 @@
 // The edits that make the instrumented copy: it keeps the order of emission, the causes of proxies,
-// what is not written (dropped, skipped, culled), the path of each event, and takes its limits as given.
+// what is not written (dropped, skipped, culled), the path of each event, counts the calls for a proxy, and takes its limits
+// as given.
 // None of them changes what is decided; every run checks its lists against the plain copy's.
 
 use super::Edit;
@@ -118,6 +119,13 @@ pub const INSTRUMENT: &[Edit] = &[
         1,
         "<= MIN_AVERAGE_ELEMENT_AREA_PX\n        {",
         "<= MIN_AVERAGE_ELEMENT_AREA_PX\n        {\n            note(Cause::DenseBatch);",
+    ),
+    // Calls for a proxy.
+    edit(
+        "document 02, paper 8: every call for a proxy is counted, and those that meet a full list, by a test apart from the list's own",
+        1,
+        "    fn add_load(&mut self, bbox: WorldBBox, label: Option<Arc<str>>) {\n",
+        "    fn add_load(&mut self, bbox: WorldBBox, label: Option<Arc<str>>) {\n        let most = self.options.settings.limits.proxies;\n        self.plan.record.called = self.plan.record.called.saturating_add(1);\n        if self.plan.load_proxies.len() >= most {\n            self.plan.record.dropped = self.plan.record.dropped.saturating_add(1);\n        }\n",
     ),
     // Events in the order of emission.
     edit(

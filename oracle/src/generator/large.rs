@@ -4,6 +4,7 @@
 use super::boxes::grow_true_boxes;
 use super::edges::at_limits::{after_both, after_cells, after_objects, after_proxies, after_texts, grids, room_for_both_boxes};
 use super::encode::{QUARTERS, grid, input, query_bytes, single};
+use super::full_list;
 use super::long;
 use super::rng::Rng;
 use crate::sheet::{Query, Sheet, Source};
@@ -109,6 +110,20 @@ pub const LARGE: &[Large] = &[
     large("node grid of six, the limit in member", 6, limit_in_member),
     large("node grid of one, the limit in member", 1, limit_in_only_member),
     large("node grid, two short of 100,000 proxies", 99_998, room_for_both_boxes),
+    large("one short of 100,000 proxies", 11, after_proxies),
+    large("proxies called for", 99_999, full_list::called_for),
+    large("proxies called for", 100_000, full_list::called_for),
+    large("proxies called for", 100_001, full_list::called_for),
+    large("proxies called for", 100_063, full_list::called_for),
+    large("parts that want a box", 100_065, full_list::wanted),
+    large("any descent to a full list", 1, full_list::any_descent),
+    large("any descent to a full list", 2, full_list::any_descent),
+    large("any descent to a full list", 3, full_list::any_descent),
+    large("any descent to a full list", 4, full_list::any_descent),
+    large("any descent to a full list", 5, full_list::any_descent),
+    large("any descent to a full list", 6, full_list::any_descent),
+    large("any descent to a full list", 7, full_list::any_descent),
+    large("any descent to a full list", 8, full_list::any_descent),
 ];
 
 const WIDE: [f64; 4] = [-1e9, -1e9, 1e9, 1e9];

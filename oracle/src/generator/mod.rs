@@ -5,6 +5,7 @@ pub mod edges;
 pub mod encode;
 pub mod families;
 pub mod faults;
+pub mod full_list;
 pub mod large;
 pub mod long;
 pub mod node_grids;

@@ -1,5 +1,6 @@
 // The tape: records 11 to 15 as bytes, and their lines as `plan` prints them.
-// States document 01's "Shapes, texts, points and proxies: the tape" and the print of the program `plan`.
+// States document 01's "Shapes, texts, points and proxies: the tape" and the print of the program `plan`, with the seventh count
+// of document 02's Paper 8.
 
 use std::fmt::Write as _;
 
@@ -48,8 +49,8 @@ pub fn write(run: &Run) -> Vec<u8> {
             _ => {}
         }
     }
-    head(&mut tape, 54, 15);
-    for total in run.lists.totals {
+    head(&mut tape, 62, 15);
+    for total in run.lists.totals.into_iter().chain([run.record.dropped]) {
         tape.extend(total.to_le_bytes());
     }
     tape

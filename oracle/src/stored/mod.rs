@@ -9,7 +9,7 @@ use std::path::Path;
 
 use crate::answer::Outcome;
 use crate::checksum::fnv1a;
-use crate::coverage::{Coverage, TAGS, tags};
+use crate::coverage::{Coverage, MostDropped, TAGS, tags};
 use crate::generator::{FAMILIES, edges, family, faults, large::LARGE, make, make_edge, make_large};
 use crate::variants::{JUDGE, checked};
 
@@ -69,14 +69,16 @@ pub fn is_small(input: &[u8]) -> bool {
     input.len() < MOST_INPUT && answer(input).text.len() <= MOST_TEXT
 }
 
-/// The three files of the store, as bytes: the cases, their names, the large cases.
-pub fn make_files() -> [(&'static str, Vec<u8>); 3] {
+/// The three files of the store, as bytes: the cases, their names, the large cases; and lines on what their plans drop at most.
+pub fn make_files() -> ([(&'static str, Vec<u8>); 3], String) {
     let (mut packed, mut names) = (Vec::new(), String::new());
+    let (mut most, mut most_of_large) = (MostDropped::default(), MostDropped::default());
     for (number, entry) in entries().into_iter().enumerate() {
         let outcome = answer(&entry.input);
         assert!(entry.input.len() < MOST_INPUT, "{}: input too long", entry.label);
         assert!(outcome.text.len() <= MOST_TEXT, "{}: text too long", entry.label);
         let tags = tags(&outcome);
+        most.see(outcome.dropped(), || entry.label.clone());
         packed.extend((entry.input.len() as u32).to_le_bytes());
         packed.extend((outcome.text.len() as u32).to_le_bytes());
         packed.extend(&entry.input);
@@ -89,6 +91,7 @@ pub fn make_files() -> [(&'static str, Vec<u8>); 3] {
         let input = make_large(case);
         let outcome = answer(&input);
         let tags: Vec<&str> = tags(&outcome).into_iter().collect();
+        most_of_large.see(outcome.dropped(), || format!("{} {}", case.name, case.seed));
         large += &format!(
             "{number}\t{}\t{}\t{}\t{:016x}\t{}\t{:016x}\t{}\n",
             case.name,
@@ -100,7 +103,8 @@ pub fn make_files() -> [(&'static str, Vec<u8>); 3] {
             tags.join(" ")
         );
     }
-    [(CASES, packed), ("cases.txt", names.into_bytes()), ("large.txt", large.into_bytes())]
+    let files = [(CASES, packed), ("cases.txt", names.into_bytes()), ("large.txt", large.into_bytes())];
+    (files, most.line("small") + &most_of_large.line("large"))
 }
 
 /// Number of stored cases by tag, small and large, as their lines say.
@@ -121,17 +125,18 @@ pub fn coverage(folder: &Path) -> Coverage {
 /// Writes the store.
 pub fn store(folder: &Path) {
     fs::create_dir_all(folder).unwrap();
-    for (name, bytes) in make_files() {
+    let (files, most_dropped) = make_files();
+    for (name, bytes) in files {
         println!("{name}: {} bytes", bytes.len());
         fs::write(folder.join(name), bytes).unwrap();
     }
-    print!("{}", coverage(folder).table());
+    print!("{}{most_dropped}", coverage(folder).table());
 }
 
 /// Makes the store again and compares it byte by byte; the number of files that differ.
 pub fn verify(folder: &Path) -> usize {
     let mut different = 0;
-    for (name, bytes) in make_files() {
+    for (name, bytes) in make_files().0 {
         let same = fs::read(folder.join(name)).is_ok_and(|kept| kept == bytes);
         println!("{name}: {}", if same { "the same bytes" } else { "DIFFERENT" });
         different += usize::from(!same);

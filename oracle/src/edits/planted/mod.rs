@@ -28,8 +28,6 @@ pub enum Seen {
     Stored,
     /// A stored case, and the brute force of demand 3 as well.
     Cover,
-    /// Only the brute force of demand 3: what is dropped stands on no tape.
-    Brute,
     /// Only a call of the library, by its answer or by what it leaves in memory.
     Memory,
     /// Nothing can: the reason is given.

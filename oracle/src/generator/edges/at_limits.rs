@@ -10,7 +10,7 @@ use crate::sheet::{Query, Sheet, Source};
 /// N of the node, D of a cell that is dense; and C for a cell that holds itself.
 const OBJECTS_NEXT: [&str; 10] = ["bb", "bt", "bo", "tt", "nn", "br", "B", "b", "utt", "po"];
 const TEXTS_NEXT: [&str; 7] = ["b", "tt", "to", "nn", "tr", "T", "bb"];
-const PROXIES_NEXT: [&str; 11] = ["b", "t", "n", "dc", "dt", "dn", "dr", "D", "C", "tt", "nn"];
+const PROXIES_NEXT: [&str; 12] = ["b", "t", "n", "dc", "dt", "dn", "dr", "D", "C", "tt", "nn", "do"];
 const BOTH_NEXT: [&str; 8] = ["bb", "bt", "bo", "nn", "br", "B", "N", "tt"];
 
 /// The records that every case has, by the letters above.
