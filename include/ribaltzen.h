@@ -152,7 +152,7 @@ uint32_t scene_plan_with_finder(const uint8_t *sheet, size_t sheet_length,
 #define RIBALTZEN_MOST_CELLS ((size_t)4096)
 #define RIBALTZEN_MOST_DEPTH ((uint32_t)32)
 #define RIBALTZEN_MOST_TAPE ((size_t)5360062) /* bytes: 100,000 proxies, 20,000 batches and the totals; no tape is
-                                                 longer: theorem tape-at-most (crates/plan_rules) */
+                                                 longer: theorem tape-at-most (crates/totals) */
 #define RIBALTZEN_MOST_COUNTS (RIBALTZEN_MOST_CELLS * RIBALTZEN_MOST_DEPTH)      /* places of 64 bits */
 #define RIBALTZEN_MOST_MARKS (RIBALTZEN_MOST_CELLS * (RIBALTZEN_MOST_DEPTH + 2)) /* bytes */
 

@@ -29,7 +29,7 @@ pub use records::Records;
 pub use refusal::Refusal;
 pub use sheet::Sheet;
 
-/// No plan has a longer tape, by the theorem `tape-at-most` of crates/plan_rules: 100,000 proxies, 20,000 batches and the
+/// No plan has a longer tape, by the theorem `tape-at-most` of crates/totals: 100,000 proxies, 20,000 batches and the
 /// totals.
 pub const MOST_TAPE: usize =
     100_000 * record::length::PROXY + 20_000 * record::length::BATCH + record::length::TOTALS;
