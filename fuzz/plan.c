@@ -132,6 +132,7 @@ static void expect_tape(const uint8_t *tape, size_t length)
     expect(listed[0] + listed[1] + listed[2] <= 20000 && listed[1] <= 10000 && listed[3] <= 100000, "the limits hold");
     expect(ribaltzen_field(tape + length - 56, 8) <= 20000, "at most 20,000 cells are in detail");
     expect(ribaltzen_field(tape + length - 8, 8) == 0 || listed[3] == 100000, "only a full list drops proxies");
+    expect(ribaltzen_field(tape + length - 8, 8) <= 63, "at depth 32 or less at most 63 proxies are dropped");
     for (i = 0; i < 5; i++) {
         features[LISTED + 32 * i + digits(listed[i]) % 32] = 1;
     }

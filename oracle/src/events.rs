@@ -143,6 +143,24 @@ pub struct Run {
     pub record: Record,
 }
 
+impl Run {
+    /// "a seventh count: proxies that met a full list. [...] Listed plus dropped proxies equal the proxies that the rules call for":
+    /// the counts of calls against the events.
+    pub fn check_calls(&self) -> Result<(), String> {
+        let Record { events, called, dropped, .. } = &self.record;
+        let count = |is: fn(&Event) -> bool| events.iter().filter(|&event| is(event)).count() as u64;
+        let met_full = count(|event| matches!(event, Event::Dropped { .. }));
+        let boxes = count(|event| event.boxed().is_some());
+        if *dropped != met_full {
+            return Err(format!("{dropped} proxies are counted as dropped, not {met_full}"));
+        }
+        if *called != boxes {
+            return Err(format!("{boxes} proxies are listed or dropped, and {called} were called for"));
+        }
+        Ok(())
+    }
+}
+
 /// "Any NaN is written 7FF8000000000000."
 pub fn pattern(value: f64) -> u64 {
     if value.is_nan() { 0x7ff8_0000_0000_0000 } else { value.to_bits() }

@@ -200,11 +200,12 @@ fn quick(folder: &Path) -> ! {
     let mut most = coverage::MostDropped::default();
     let (run, _) = commands::fresh_cases(generator::FAMILIES, 1_000_000, 300, &mut coverage, &mut most);
     add("fresh cases, both copies alike", (run as usize, 0));
+    print!("{}", most.line("fresh"));
     let tally = brute::search(variants::checked, 1_000_000, LONG_RUN, false);
     add("demand 3 by brute force", ((tally.sheets - tally.faults) as usize, tally.faults as usize));
     let missing = tally.missing();
     missing.iter().for_each(|what| println!("not met by brute force: {what}"));
-    add("node grids at a limit and dropped proxies, by kind", (brute::wanted() - missing.len(), missing.len()));
+    add("node grids at a limit and dropped proxies, by kind", (brute::kinds_wanted() - missing.len(), missing.len()));
     let mut subject = harness::Oracle { plan: variants::copies().instrumented, judge: variants::JUDGE };
     let tally = harness::run(&mut subject, 1_000_000, 3_000);
     add("memory after calls as stated", ((tally.calls - tally.broken) as usize, tally.broken as usize));

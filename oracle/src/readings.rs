@@ -5,8 +5,8 @@
 
 use crate::answer::{Answer, Lent};
 use crate::events::{Limits, Lists, Record, Run, Settings, patterns};
-use crate::generator::encode::{batch_bytes, cell_bytes, grid, node_bytes, reference_bytes, single, text_bytes};
 use crate::generator::boxes::grow_true_boxes;
+use crate::generator::encode::{batch_bytes, cell_bytes, grid, node_bytes, reference_bytes, single, text_bytes};
 use crate::generator::full_list::descent;
 use crate::generator::large::{LARGE, wide};
 use crate::generator::{edges, make_edge, make_large};

@@ -1,7 +1,7 @@
 //! The copies of the planner that build.rs made, and the check of one against the other.
 
 use crate::answer::{Copies, Judge};
-use crate::events::{Event, Limits, Run, Settings, lists_of};
+use crate::events::{Limits, Run, Settings, lists_of};
 use crate::judge;
 use crate::sheet::{Query, Sheet};
 
@@ -31,17 +31,6 @@ fn most_dropped(depth: u32) -> u64 {
     (2 * u64::from(depth)).saturating_sub(1)
 }
 
-/// The counts of document 02's Paper 8 against the events and the list.
-fn check_calls(run: &Run, depth: u32) {
-    let dropped = run.record.events.iter().filter(|event| matches!(event, Event::Dropped { .. })).count() as u64;
-    assert!(dropped == run.record.dropped, "the count of dropped proxies is not the events'");
-    assert!(
-        run.lists.proxies.len() as u64 + dropped == run.record.called,
-        "listed and dropped proxies are not those that were called for"
-    );
-    assert!(dropped <= most_dropped(depth), "{dropped} proxies dropped at depth {depth}");
-}
-
 /// Plans with both copies. The instrumented one goes first, so that fuel can end a hostile sheet.
 pub fn checked(sheet: &Sheet, query: &Query, settings: Settings) -> Run {
     let copies = copies();
@@ -50,7 +39,8 @@ pub fn checked(sheet: &Sheet, query: &Query, settings: Settings) -> Run {
         lists_of(&run.record.events, run.lists.totals) == run.lists,
         "the instrumented copy's events are not its lists"
     );
-    check_calls(&run, query.depth);
+    run.check_calls().unwrap_or_else(|fault| panic!("{fault}"));
+    assert!(run.record.dropped <= most_dropped(query.depth), "more proxies are dropped than a plan of this depth can drop");
     if settings.limits == Limits::DOCUMENT {
         assert!(
             (copies.plain)(sheet, query) == run.lists,

@@ -24,7 +24,7 @@ use Rattle.plan_rules.specs.Plan.{plan}
 use Rattle.plan_rules.specs.Tape.{noTag, note, tape}
 use Rattle.plan_rules.specs.Outcome.{Outcome, freshPlan, tapeOf, outcomeOf}
 use Rattle.plan_rules.proofs.Questions.{passed, zoom-positive}
-use Rattle.plan_rules.proofs.Accepted.{accepted}
+use Rattle.plan_rules.proofs.Accepted.{accepted-outcome}
 use Rattle.plan_rules.proofs.Simulation.{the-relation}
 use Rattle.plan_rules.proofs.Simulation.Premises.{Room, no-premises}
 use Rattle.plan_rules.proofs.Simulation.Visits.{plan-sim}
@@ -72,7 +72,7 @@ pub record Accepted (s : List ℕ) (q : Query) (o k m : List ℕ) : Type 0 where
 pub accepted-call : (s : List ℕ) (q : Query) (o k m : List ℕ) → (outcomeOf s q o k m) .number ≡ 0 → Accepted s q o k m
 accepted-call s q o k m e =
     let S = sheetOf s in
-    let a = accepted s q o k m e in
+    let a = accepted-outcome s q o k m e in
     let c = a .counts in
     let asked = passed _ _ _ _ _ _ (a .passed) in
     let t = sym (events-tape S (c .cells) q) ∙ ap (λ (c : Counts). tape (events S (c .cells) q (counts S (c .cells) q) (marks S (c .cells) q))) (sound-counts s c (a .sound)) in

@@ -64,8 +64,8 @@ eventsOf sheet q =
     let cells = countsOf sheet .cells in
     events (sheetOf sheet) cells q (replicate (countsNamed cells (q .depth)) 0) (replicate (marksNamed cells (q .depth)) 0)
 
--- The trace is that of the rules, and the output is its records, totals last, and then what was lent. The records alone would leave open the events that
--- are not written: a dropped proxy could be invented.
+-- The trace is that of the rules, and the output is its records, totals last, and then what was lent. The records alone would leave open what is not
+-- written: they tell how many proxies were dropped, not which.
 pub record IsTape (sheet : List ℕ) (q : Query) (o : Outcome) (trace : Trace) (lent : List ℕ) : Type 0 where
   pub ran : trace ≡ eventsOf sheet q
   pub tapeLength : o .tapeLength ≡ length (tape trace)

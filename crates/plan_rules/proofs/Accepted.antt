@@ -40,7 +40,7 @@ plannedOutcome S cells q o k m =
     let t = tapeOf S cells q in
     outcome (Planned (length t)) (t ++ drop (length t) o) (zeroed (countsNamed cells (q .depth)) k) (zeroed (marksNamed cells (q .depth)) m)
 
-pub record Accepted (s : List ℕ) (q : Query) (o k m : List ℕ) : Type 0 where
+pub record AcceptedOutcome (s : List ℕ) (q : Query) (o k m : List ℕ) : Type 0 where
   pub counts : Counts
   pub sound : checkSheet s ≡ checked.Sound counts
   pub passed : queryRefusal (q .view) (q .zoom) (q .depth) (counts .cells) (length k) (length m) ≡ 0
@@ -51,11 +51,11 @@ sound-planned S cells q o k m e =
     let delivering = query-passed S cells q o k m (accepted-passed S cells q o k m e) in
     delivering ∙ fitted _ _ _ o k m (ap (λ (x : Outcome). x .number) (sym delivering) ∙ e)
 
-pub accepted : (s : List ℕ) (q : Query) (o k m : List ℕ) → (outcomeOf s q o k m) .number ≡ 0 → Accepted s q o k m
+pub accepted-outcome : (s : List ℕ) (q : Query) (o k m : List ℕ) → (outcomeOf s q o k m) .number ≡ 0 → AcceptedOutcome s q o k m
 unfolding outcomeOf
-accepted s q o k m e = by (checkSheet s) refl (sheet-numbered s) e
+accepted-outcome s q o k m e = by (checkSheet s) refl (sheet-numbered s) e
   where
-    by : (x : Checked) → checkSheet s ≡ x → Numbered x → (checkedOutcome x (sheetOf s) q o k m) .number ≡ 0 → Accepted s q o k m
+    by : (x : Checked) → checkSheet s ≡ x → Numbered x → (checkedOutcome x (sheetOf s) q o k m) .number ≡ 0 → AcceptedOutcome s q o k m
     by (checked.Refused n at) h (refused above) e = let none : n ≡ 0 = e in absurd (let y : ⊥ = omega arith in y)
     by (checked.Sound c) h f e =
         record {

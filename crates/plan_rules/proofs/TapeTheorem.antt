@@ -27,9 +27,13 @@ use Rattle.plan_rules.specs.Statements.{WritesItsTape}
 
 -- ---- a record's length is what its event adds to the tape's end
 
-pub encode-length : (e : Event) → length (encode e) ≡ amounts e .«tape_end»
+encode-length : (e : Event) → length (encode e) ≡ amounts e .«tape_end»
 unfolding encode
 encode-length e = length-recordBytes (fieldsOf e)
+
+-- and so what it adds to the tape
+pub longer : {P : Type 0} (e : Event) (l : List (P × Event)) → length (tape l ++ encode e) ≡ length (tape l) + amounts e .«tape_end»
+longer e l = length-append (tape l) (encode e) ∙ ap (λ (n : ℕ). length (tape l) + n) (encode-length e)
 
 -- ---- a record on the output
 
@@ -70,9 +74,9 @@ module _ {P : Type 0} (o : List ℕ) where
   keeps : (q : Query) (ta : P) (tb : Unit {0}) (e : Event) → Unit {0} → (s : ScenePlan) → Room q s e → (l : List (P × Event)) (b : List ℕ) → Run s l b → Run (after e s) (note ta e (s .«tape_end») l) (onTape tb e (s .«tape_end») b)
   unfolding after onTape
   keeps q ta tb e ok s room l b r =
-      let longer : length (tape l ++ encode e) ≡ length (tape l) + amounts e .«tape_end» = length-append (tape l) (encode e) ∙ ap (λ (n : ℕ). length (tape l) + n) (encode-length e) in
+      let grown = longer e l in
       record {
-        ends = ap (λ (n : ℕ). n ⊞ amounts e .«tape_end») (r .ends) ∙ saturate-add (length (tape l)) (amounts e .«tape_end») ∙ ap saturate (sym longer);
+        ends = ap (λ (n : ℕ). n ⊞ amounts e .«tape_end») (r .ends) ∙ saturate-add (length (tape l)) (amounts e .«tape_end») ∙ ap saturate (sym grown);
         same-length = length-put b (s .«tape_end») (fieldsOf e) ∙ r .same-length;
         written = λ small fits.
             let end : s .«tape_end» ≡ length (tape l) = below-stop (s .«tape_end») (length (tape l)) (r .ends) (omega arith) in

@@ -22,7 +22,7 @@ pub data Event : Type 0 where
   text : ℕ → DVec2 → Event  -- number, position
   point : ℕ → ℕ → DVec2 → Event  -- layer, node type, position
   proxy : Reason → ℕ → WorldBBox → Event  -- why, label, box
-  droppedProxy : Reason → ℕ → WorldBBox → Event  -- "A full proxy list drops further proxies silently"
+  droppedProxy : Reason → ℕ → WorldBBox → Event  -- "A full proxy list drops further proxies"; document 02, paper 8, counts them
   skippedMember : Bool → WorldBBox → Event  -- is the source box degenerate; the member's box
   skippedBatch : WorldBBox → Event
   culledReference : Event  -- a reference or one of its members

@@ -1,6 +1,7 @@
 -- Question 13 by code path, and what a call with a finder and one without have in common: the statements of `Agreement`.
 -- Assumes nothing.
 use mathlib.Core.Path.{_≡_, refl, sym, ap, _∙_}
+use mathlib.Core.Logic.{_⊎_, inl, inr}
 use mathlib.Core.Bool.{Bool, true, false}
 use mathlib.Core.List.{List, [], _++_}
 use Prim.Native.Nat.{ℕ}
@@ -79,16 +80,23 @@ pub short-finder-is-refused : ShortFinderIsRefused
 unfolding turnedAway
 short-finder-is-refused s finder q o k m valid short = with-foreign s finder q o k m _ (valid-sound s valid) (short-is-turned-away s finder short)
 
--- a call that is not turned away is one without a finder
+-- whatever list is lent, a call with it is one without a finder, or turned away
+pub agrees-or-turned-away : (s finder : List ℕ) (q : Query) (o k m : List ℕ) → (outcomeWith s finder q o k m ≡ outcomeOf s q o k m) ⊎ (outcomeWith s finder q o k m ≡ turnedAway o k m)
+agrees-or-turned-away s finder q o k m = by-check (checkSheet s) refl (belongs finder s) refl
+  where
+    by-check : (c : Checked) → checkSheet s ≡ c → (b : Bool) → belongs finder s ≡ b → (outcomeWith s finder q o k m ≡ outcomeOf s q o k m) ⊎ (outcomeWith s finder q o k m ≡ turnedAway o k m)
+    by-check c e true own = inl (own-agrees s finder q o k m own)
+    by-check (checked.Refused number offset) e false foreign = inl (refused-agrees s finder q o k m number offset e)
+    by-check (checked.Sound counts) e false foreign = inr (with-foreign s finder q o k m counts e foreign)
+
 not-turned-away : (s finder : List ℕ) (q : Query) (o k m : List ℕ) → outcomeWith s finder q o k m .number ≡ 0 → outcomeWith s finder q o k m ≡ outcomeOf s q o k m
 unfolding turnedAway
-not-turned-away s finder q o k m accepted = by-check (checkSheet s) refl (belongs finder s) refl
+not-turned-away s finder q o k m accepted = by (agrees-or-turned-away s finder q o k m)
   where
-    by-check : (c : Checked) → checkSheet s ≡ c → (b : Bool) → belongs finder s ≡ b → outcomeWith s finder q o k m ≡ outcomeOf s q o k m
-    by-check c e true own = own-agrees s finder q o k m own
-    by-check (checked.Refused number offset) e false foreign = refused-agrees s finder q o k m number offset e
-    by-check (checked.Sound counts) e false foreign =
-        let thirteen : _≡_ {A = ℕ} 13 0 = sym (ap (λ (x : Outcome). x .number) (with-foreign s finder q o k m counts e foreign)) ∙ accepted in
+    by : (outcomeWith s finder q o k m ≡ outcomeOf s q o k m) ⊎ (outcomeWith s finder q o k m ≡ turnedAway o k m) → outcomeWith s finder q o k m ≡ outcomeOf s q o k m
+    by (inl agrees) = agrees
+    by (inr turned) =
+        let thirteen : _≡_ {A = ℕ} 13 0 = sym (ap (λ (x : Outcome). x .number) turned) ∙ accepted in
         absurd (omega arith)
 
 pub accepted-with-is-accepted : AcceptedWithIsAccepted

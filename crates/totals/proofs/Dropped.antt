@@ -1,29 +1,27 @@
 -- HOW MANY PROXIES A PLAN CAN DROP. While the list is not full none is. Once it is, every loop that goes on meets the exhausted budget, adds the box of its cell
 -- or of its reference, and is over: one for each cell and each reference that is open then. Nothing is asked of the sheet.
 -- Assumes nothing.
-use mathlib.Core.Path.{_≡_, refl, sym, ap, _∙_, subst}
-use mathlib.Core.Bool.{Bool, true, false, not, cond, _||_}
-use mathlib.Core.List.{List, [], _∷_}
-use mathlib.Core.Option.{Option, none, some}
-use Prim.Native.Nat.{ℕ, zero, suc, _+_, _-_, _*_, _≤_, _<_}
+use mathlib.Core.Path.{_≡_, refl, ap, _∙_}
+use mathlib.Core.Bool.{Bool, true, false, cond, _||_}
+use mathlib.Core.List.{List}
+use mathlib.Core.Option.{none}
+use Prim.Native.Nat.{ℕ, zero, suc, _+_, _≤_, _<_}
 use native.Mathlib.Omega.{arith}
-use lib.Dec.{leb, ltb}
+use lib.Dec.{leb}
 use borrow.Author.Tests.{le-leb, lt-ltb, le-ltb}
 use Rattle.geometry.specs.declared.bbox.WorldBBox.{WorldBBox}
 use Rattle.geometry.specs.declared.bbox.Bounds.{Bounds}
 use Rattle.geometry.specs.declared.bbox.Bounds.the-variants.{Absent, Box}
-use Rattle.geometry.specs.declared.placement.Placement.{Placement}
 use Rattle.geometry.specs.Bbox.{bbox}
 use Rattle.walk.proofs.Offsets.{by-order}
 use Rattle.plan_rules.specs.declared.ScenePlan.{ScenePlan}
 use Rattle.plan_rules.specs.declared.Reason.{Reason}
 use Rattle.plan_rules.specs.Limits.{maxTextInstances, maxLoadProxies}
-use Rattle.plan_rules.specs.Event.{Event, proxy, droppedProxy, Step, _⊞_, amounts, after}
+use Rattle.plan_rules.specs.Event.{Event, _⊞_, after}
 use Rattle.plan_rules.specs.World.{Query, detailBudgetExhausted, World, Flow, go, halt, bind, ending, each}
 use Rattle.plan_rules.specs.Push.{say, addLoad, addLoadIfBoxed}
 use Rattle.plan_rules.specs.Tape.{noTag, note}
 use Rattle.totals.specs.Proxies.{loadOf, droppedIn, droppedProxies}
-use Rattle.totals.proofs.Proxies.{one-more}
 
 abbrev pub Noted : Type 0
 Noted = World (List (Unit {0} × Event))

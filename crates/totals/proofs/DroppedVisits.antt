@@ -1,12 +1,11 @@
 -- HOW MANY PROXIES A PLAN CAN DROP, visit by visit: a reference at depth d at most 2 × (d − 1), a cell whose references are at depth d one more, so a plan at most 2 × depth − 1.
 -- Assumes nothing.
-use mathlib.Core.Path.{_≡_, refl, sym, ap, _∙_, subst}
-use mathlib.Core.Bool.{Bool, true, false, not, cond, _||_}
+use mathlib.Core.Path.{_≡_, refl, _∙_}
+use mathlib.Core.Bool.{Bool, true, false, not, cond}
 use mathlib.Core.List.{List, []}
 use mathlib.Core.Option.{Option, none, some}
-use Prim.Native.Nat.{ℕ, zero, suc, _+_, _-_, _*_, _≤_, _<_}
+use Prim.Native.Nat.{ℕ, zero, suc, _+_, _-_, _*_, _≤_}
 use native.Mathlib.Omega.{arith}
-use lib.Ieee.{Float}
 use borrow.Author.Tests.{le-leb}
 use Rattle.geometry.specs.declared.bbox.WorldBBox.{WorldBBox}
 use Rattle.geometry.specs.declared.bbox.Bounds.{Bounds}
@@ -24,18 +23,17 @@ use Rattle.records.specs.declared.PreparedReference.{PreparedReference}
 use Rattle.records.specs.Sources.{noLabel, label}
 use Rattle.abstract_sheet.specs.Sheet.{NodeRecord, CellRecord, Sheet}
 use Rattle.plan_rules.specs.declared.Reason.the-variants as reason
-use Rattle.plan_rules.specs.Limits.{maxLoadProxies}
-use Rattle.plan_rules.specs.Event.{Event, batch, text, point, skippedMember, skippedBatch, culledReference, culledBatch, detailCell, batchAt, textAt, nodeAt, referenceAt, member, _⊞_, emptyPlan, after}
-use Rattle.plan_rules.specs.World.{Query, hides, detailCellsFull, detailBudgetExhausted, world, Flow, go, halt, bind, ending, each, setMark}
+use Rattle.plan_rules.specs.Event.{batch, text, point, skippedMember, skippedBatch, culledReference, culledBatch, detailCell, _⊞_, emptyPlan, after}
+use Rattle.plan_rules.specs.World.{Query, hides, detailCellsFull, detailBudgetExhausted, world, go, halt, bind, ending, each, setMark}
 use Rattle.plan_rules.specs.Scratch.{openPlace, isMarked}
 use Rattle.plan_rules.specs.DrawUnits.{Units, referenceDrawUnits}
 use Rattle.plan_rules.specs.Push.{say, addLoad, addLoadIfBoxed, pushFoundGeometry, pushGeometry, pushFoundText, pushText, pushPoint, pushFoundNode, pushNode}
-use Rattle.plan_rules.specs.Visit.{sourceUnits, collapseReason, haltWithCell, haltWithMember, loadMember, withScratch, VisitReference, VisitSource, geometryStep, textStep, nodeStep, referenceStep, cellBody, visitFoundCell, visitSourceWith, memberStep, columnStep, visitCountedReference, visitBoxedReference, visitSourcedReference, visitFoundReference, visitReference, visitCell}
-use Rattle.plan_rules.specs.Plan.{loadRootBox, loadRoot, visitRoot, plan}
+use Rattle.plan_rules.specs.Visit.{sourceUnits, collapseReason, haltWithCell, haltWithMember, withScratch, VisitReference, VisitSource, geometryStep, textStep, nodeStep, referenceStep, cellBody, visitFoundCell, visitSourceWith, memberStep, columnStep, visitCountedReference, visitBoxedReference, visitSourcedReference, visitFoundReference, visitReference, visitCell}
+use Rattle.plan_rules.specs.Plan.{loadRootBox, loadRoot, visitRoot}
 use Rattle.plan_rules.specs.Tape.{noTag, note}
 use Rattle.totals.specs.Proxies.{droppedProxies, mostDropped}
 use Rattle.totals.proofs.Proxies.{visited}
-use Rattle.totals.proofs.Dropped.{Noted, NotedFlow, Free, Full, droppedAt, Adds, still, filled, AddsFlow, MeetsFull, Unwinds, more, after-same, ending-adds, cond-adds, cond-flow, bind-unwinds, each-unwinds, exhausted, say-adds, load-free, load-full, boxed-free, boxed-full}
+use Rattle.totals.proofs.Dropped.{Noted, NotedFlow, Free, droppedAt, Adds, still, filled, AddsFlow, Unwinds, more, after-same, ending-adds, cond-adds, cond-flow, bind-unwinds, each-unwinds, exhausted, say-adds, load-free, load-full, boxed-free, boxed-full}
 
 module _ (S : Sheet) (cells : ℕ) (q : Query) where
   -- ---- pushes, from a list that is not full
@@ -121,11 +119,7 @@ module _ (S : Sheet) (cells : ℕ) (q : Query) where
 
       node-halts : (w : Noted) (x : NotedFlow) → Quiet w x → AddsFlow g w (haltWithCell noTag note tt n box x)
       node-halts w (go v) m = still (m .0) (m .1)
-      node-halts w (halt v) m = at-last (boxed-free reason.OtherLimit n box v (m .0))
-        where
-          at-last : {u : Noted} → Adds (g + 1) v u → Adds (g + 1) w u
-          at-last (still f e) = still f (e ∙ m .1)
-          at-last (filled f e) = filled f (omega (arith, m .1))
+      node-halts w (halt v) m = after-same (m .1) (boxed-free reason.OtherLimit n box v (m .0))
 
       nodes : (i : ℕ) → Unwinds g (nodeStep noTag note S cells q tt n c p box i)
       unfolding nodeStep pushNode
@@ -193,11 +187,7 @@ module _ (S : Sheet) (cells : ℕ) (q : Query) where
       member-halts l b w (halt v) h = both (addLoad noTag note tt reason.OtherLimit l b v) (load-free reason.OtherLimit l b v (h .0))
         where
           both : (u : Noted) → Adds 0 v u → Adds (g + 1) w (addLoad noTag note tt reason.OtherLimit noLabel wb u)
-          both u (still f e) = after-two (load-free reason.OtherLimit noLabel wb u f)
-            where
-              after-two : {z : Noted} → Adds (g + 1) u z → Adds (g + 1) w z
-              after-two (still i j) = still i (j ∙ e ∙ h .1)
-              after-two (filled i j) = filled i (omega (arith, e, h .1))
+          both u (still f e) = after-same (e ∙ h .1) (load-free reason.OtherLimit noLabel wb u f)
           both u (filled f e) = let m = load-full reason.OtherLimit noLabel wb u f in filled (m .0) (omega (arith, m .1, h .1))
 
       member-unwinds : (u x y : ℕ) → Unwinds g (memberStep noTag note S cells q visit depth tt r p sb wb u x y)

@@ -6,7 +6,6 @@ use mathlib.Core.Path.{_≡_, refl}
 use mathlib.Core.List.{List, [], _∷_}
 use Prim.Native.Nat.{ℕ}
 use lib.ListN.{replicate}
-use Rattle.geometry.specs.declared.bbox.WorldBBox.{WorldBBox}
 use Rattle.records.specs.declared.PreparedSource.the-variants.{Cell}
 use Rattle.abstract_sheet.specs.Sheet.{Sheet}
 use Rattle.plan_rules.specs.Limits.{maxSceneObjects}

@@ -139,6 +139,7 @@ proxies-add-up P enter S cells q t k m =
     let h : Tally (w .state) (w .out) = plan-kept enter note S cells q Tally (keeps q) t (world emptyPlan [] k m) empty in
     record {
       listed = h .listed;
+      most = h .most;
       dropped = h .dropped;
       together = λ going. omega (arith, h .listed, unstopped _ _ (h .dropped) going, listed-and-dropped (w .out));
     }

@@ -29,8 +29,8 @@ use Rattle.plan_rules.specs.Plan.{plan}
 use Rattle.plan_rules.specs.Tape.{noTag, note, tape}
 use Rattle.plan_rules.specs.Outcome.{Outcome, freshPlan, tapeOf, outcomeOf}
 use Rattle.plan_rules.proofs.Questions.{passed}
-use Rattle.plan_rules.proofs.Accepted.{Accepted, accepted}
-use Rattle.totals.specs.Proxies.{loadOf, listedIn, listedProxies, droppedProxies, eventsOf, seventhCount, TapeAddsUp, CallAddsUp, mostDropped, CallDropsAtMost, CallAlwaysAddsUp}
+use Rattle.plan_rules.proofs.Accepted.{AcceptedOutcome, accepted-outcome}
+use Rattle.totals.specs.Proxies.{loadOf, listedIn, listedProxies, droppedProxies, untaggedEvents, seventhCount, TapeAddsUp, CallAddsUp, mostDropped, CallDropsAtMost, CallAlwaysAddsUp, CallsForAtMost}
 use Rattle.totals.proofs.Proxies.{listed-and-dropped, unstopped, stops, at-most-counted, visited, visits-tally, totals-last}
 use Rattle.totals.proofs.DroppedVisits.{visits-drop-at-most}
 
@@ -156,12 +156,13 @@ fresh-adds-up S cells q =
     let last : l ≡ (tt, totals (v .state)) ∷ v .out = totals-last noTag S cells q tt k m in
     let few : v .state .«dropped_load_proxies» ≤ maxTotal = stops _ _ (h .dropped) in
     let listed = proxies-on-tape l in
+    let same : listedProxies l ≡ listedProxies (v .out) = ap listedProxies last ∙ zero-add (listedProxies (v .out)) in
     let dropped : seventhCount (tape l) ≡ saturate (droppedProxies l) =
     ap (λ (x : List (Unit {0} × Event)). seventhCount (tape x)) last
     ∙ seventh (v .out) tt (v .state) few
     ∙ h .dropped
     ∙ ap saturate (sym (zero-add (droppedProxies (v .out))) ∙ ap droppedProxies (sym last)) in
-    record { listed = listed; dropped = dropped; together = λ going. omega (arith, listed, unstopped _ _ dropped going, listed-and-dropped l) }
+    record { listed = listed; most = omega (arith, listed, h .listed, h .most, same); dropped = dropped; together = λ going. omega (arith, listed, unstopped _ _ dropped going, listed-and-dropped l) }
 
 -- its last field is what the visits dropped, which is far below the number at which a count stops
 fresh-drops-at-most : (S : Sheet) (cells : ℕ) (q : Query) → seventhCount (tapeOf S cells q) ≤ mostDropped (q .depth)
@@ -177,8 +178,8 @@ fresh-drops-at-most S cells q =
 -- ---- the theorems about an accepted call
 
 module _ (s : List ℕ) (q : Query) (o k m : List ℕ) (e : (outcomeOf s q o k m) .number ≡ 0) where
-  abbrev a : Accepted s q o k m
-  a = accepted s q o k m e
+  abbrev a : AcceptedOutcome s q o k m
+  a = accepted-outcome s q o k m e
 
   abbrev c : Counts
   c = a .counts
@@ -191,7 +192,7 @@ module _ (s : List ℕ) (q : Query) (o k m : List ℕ) (e : (outcomeOf s q o k m
 
 pub call-adds-up : CallAddsUp
 call-adds-up s q o k m e =
-    subst (λ (b : List ℕ). TapeAddsUp b (eventsOf s q)) (sym (cut s q o k m e))
+    subst (λ (b : List ℕ). TapeAddsUp b (untaggedEvents s q)) (sym (cut s q o k m e))
     (subst (λ (c : Counts). TapeAddsUp (t s q o k m e) ((freshPlan noTag note (sheetOf s) (c .cells) q tt []) .out)) (sound-counts s (c s q o k m e) (a s q o k m e .sound))
     (fresh-adds-up (sheetOf s) (c s q o k m e .cells) q))
 
@@ -203,3 +204,6 @@ call-always-adds-up s q o k m e =
     let few = call-drops-at-most s q o k m e in
     let asked = passed _ _ _ _ _ _ (a s q o k m e .passed) in
     call-adds-up s q o k m e .together (omega (arith, asked .depth-within))
+
+pub calls-for-at-most : CallsForAtMost
+calls-for-at-most s q o k m e = omega (arith, call-always-adds-up s q o k m e, call-drops-at-most s q o k m e, call-adds-up s q o k m e .most)

@@ -2,10 +2,10 @@
 -- Assumes nothing.
 use mathlib.Core.Path.{_≡_, refl, ap, _∙_}
 use mathlib.Core.Bool.{Bool, true, false, not, cond, _||_}
-use mathlib.Core.List.{List, [], _∷_, _++_}
+use mathlib.Core.List.{List, [], _∷_}
 use Prim.Native.Nat.{ℕ, _+_, _*_, _≤_, _<_}
 use native.Mathlib.Omega.{arith}
-use lib.ListN.{length, replicate, length-append}
+use lib.ListN.{length, replicate}
 use lib.Dec.{leb, eqb, ltb→lt}
 use lib.Dec.{T as Yes}
 use borrow.Author.Tests.{le-leb, leb-false}
@@ -16,7 +16,7 @@ use Rattle.check_sheet.specs.Check.{checkSheet}
 use Rattle.plan_rules.specs.declared.ScenePlan.{ScenePlan}
 use Rattle.plan_rules.specs.declared.Answer.the-variants.{Refused}
 use Rattle.plan_rules.specs.Limits.{maxSceneObjects, maxTextInstances, maxLoadProxies}
-use Rattle.plan_rules.specs.Event.{Event, batch, text, point, proxy, droppedProxy, skippedMember, skippedBatch, culledReference, culledBatch, detailCell, totals, encode, saturate, _⊞_, emptyPlan, amounts, after}
+use Rattle.plan_rules.specs.Event.{Event, batch, text, point, proxy, droppedProxy, skippedMember, skippedBatch, culledReference, culledBatch, detailCell, totals, _⊞_, emptyPlan, amounts, after}
 use Rattle.plan_rules.specs.World.{Query, detailBudgetExhausted, world}
 use Rattle.plan_rules.specs.Scratch.{countsNamed, marksNamed}
 use Rattle.plan_rules.specs.Tape.{noTag, note, tape}
@@ -24,10 +24,10 @@ use Rattle.plan_rules.specs.Questions.{queryRefusal}
 use Rattle.plan_rules.specs.Outcome.{Outcome, freshPlan, tapeOf, delivered, soundOutcome, checkedOutcome, outcomeOf}
 use Rattle.plan_rules.proofs.Simulation.Premises.{Room, isTotals}
 use Rattle.plan_rules.proofs.Invariant.{root-kept}
-use Rattle.plan_rules.proofs.TapeTheorem.{encode-length}
+use Rattle.plan_rules.proofs.TapeTheorem.{longer}
 use Rattle.plan_rules.proofs.OutcomeTheorem.{sheet-sound, query-passed}
 use Rattle.totals.specs.TapeLength.{mostTape, TapeAtMost, EnoughOutput}
-use Rattle.totals.proofs.Proxies.{one-more, visited, totals-last}
+use Rattle.totals.proofs.Proxies.{one-more, at-most-counted, visited, totals-last}
 
 -- ---- what every event but the totals keeps
 
@@ -46,9 +46,6 @@ module _ {P : Type 0} (q : Query) (few : q .objectLimit ≤ maxSceneObjects) whe
     pub objects : s .«detail_objects» ≤ q .objectLimit
     pub proxies : s .«load_proxies» ≤ maxLoadProxies
     pub bytes : length (tape l) ≤ 58 * s .«detail_objects» + 42 * s .«load_proxies»
-
-  longer : (e : Event) (l : List (P × Event)) → length (tape l ++ encode e) ≡ length (tape l) + amounts e .«tape_end»
-  longer e l = length-append (tape l) (encode e) ∙ ap (λ (n : ℕ). length (tape l) + n) (encode-length e)
 
   object-listed : (t : P) (e : Event) (s : ScenePlan) (l : List (P × Event)) → amounts e .«detail_objects» ≡ 1 → amounts e .«load_proxies» ≡ 0 → amounts e .«tape_end» ≤ 58
       → Yes (not (detailBudgetExhausted q s)) → Bounded s l → Bounded (after e s) ((t, e) ∷ l)
@@ -75,8 +72,8 @@ module _ {P : Type 0} (q : Query) (few : q .objectLimit ≤ maxSceneObjects) whe
   keeps t (text n v) ok s room l h = object-listed t (text n v) s l refl refl (omega arith) room h
   keeps t (point a k v) ok s room l h = object-listed t (point a k v) s l refl refl (omega arith) room h
   keeps t (proxy y a b) ok s room l h =
-      let more = one-more (s .«load_proxies») (ltb→lt (s .«load_proxies») maxLoadProxies room) in
       let below = ltb→lt (s .«load_proxies») maxLoadProxies room in
+      let more = one-more (s .«load_proxies») below in
       unfold after in unfold _⊞_ in record { objects = h .objects; proxies = omega (arith, more); bytes = omega (arith, more, longer (proxy y a b) l, h .bytes) }
   keeps t (droppedProxy y a b) ok s room l h = unlisted t (droppedProxy y a b) s l refl refl refl h
   keeps t (skippedMember g b) ok s room l h = unlisted t (skippedMember g b) s l refl refl refl h
@@ -96,7 +93,7 @@ tape-at-most-fresh S cells q few =
     let v = visited noTag S cells q tt k m in
     let h : Bounded q few (v .state) (v .out) = root-kept noTag note S cells q (Bounded q few) (keeps q few) tt (world emptyPlan [] k m) (unfold emptyPlan in record { objects = omega arith; proxies = omega arith; bytes = omega arith }) in
     let last = ap (λ (l : List (Unit {0} × Event)). length (tape l)) (totals-last noTag S cells q tt k m) in
-    omega (arith, last, longer q few (totals (v .state)) (v .out), h .objects, h .proxies, h .bytes, few)
+    omega (arith, last, longer (totals (v .state)) (v .out), h .objects, h .proxies, h .bytes, few)
 
 -- ---- of a call
 
@@ -107,10 +104,6 @@ Short c = c .tapeLength ≤ mostTape
 short-if : (b : Bool) (x y : Outcome) → Short x → Short y → Short (cond b x y)
 short-if true x y p r = p
 short-if false x y p r = r
-
-stopped : (n : ℕ) → saturate n ≤ n
-unfolding saturate
-stopped n = omega arith
 
 module _ (S : Sheet) (cells : ℕ) (q : Query) (o k m : List ℕ) (few : q .objectLimit ≤ maxSceneObjects) where
   abbrev t : List ℕ
@@ -123,7 +116,7 @@ module _ (S : Sheet) (cells : ℕ) (q : Query) (o k m : List ℕ) (few : q .obje
   unfolding soundOutcome delivered
   sound-short =
       short-if (eqb (queryRefusal (q .view) (q .zoom) (q .depth) cells (length k) (length m)) 0) _ _
-      (short-if (leb (length t) (length o)) _ _ at-most (omega (arith, at-most, stopped (length t))))
+      (short-if (leb (length t) (length o)) _ _ at-most (omega (arith, at-most, at-most-counted _ (length t) refl)))
       (omega arith)
 
   sound-enough : mostTape ≤ length o → queryRefusal (q .view) (q .zoom) (q .depth) cells (length k) (length m) ≡ 0 → (soundOutcome S cells q o k m) .number ≡ 0

@@ -1,6 +1,6 @@
 -- PROXIES THAT DID NOT FIT, as statements. Document 02, paper 8: "The totals gain a seventh count: proxies that met a full list. .. Listed plus dropped proxies
 -- equal the proxies that the rules call for, until the seventh count stops at 2^64 − 1 like the rest."
--- Definitions only; rests on the rules and on the count of a sheet's records, which serves the tape's. Proofs: `Proxies` and `Tape` in proofs/.
+-- Definitions only; rests on the rules and on the count of a sheet's records, which serves the tape's. Proofs: `Proxies`, `Dropped`, `DroppedVisits` and `Tape` in proofs/.
 use mathlib.Core.Path.{_≡_}
 use mathlib.Core.List.{List, [], _∷_}
 use mathlib.Core.Option.{Option, none, some}
@@ -13,7 +13,7 @@ use Rattle.abstract_sheet.specs.Sheet.{Sheet, sheetOf}
 use Rattle.check_sheet.specs.Count.{countsOf}
 use Rattle.plan_rules.specs.declared.ScenePlan.{ScenePlan}
 use Rattle.plan_rules.specs.declared.Reason.{Reason}
-use Rattle.plan_rules.specs.Limits.{maxTotal}
+use Rattle.plan_rules.specs.Limits.{maxLoadProxies, maxTotal}
 use Rattle.plan_rules.specs.Event.{Event, batch, text, point, proxy, droppedProxy, skippedMember, skippedBatch, culledReference, culledBatch, detailCell, totals, Step, saturate, emptyPlan}
 use Rattle.plan_rules.specs.World.{Query, World, world}
 use Rattle.plan_rules.specs.Push.{addLoad}
@@ -23,7 +23,8 @@ use Rattle.plan_rules.specs.Outcome.{freshPlan, outcomeOf}
 
 -- ---- the events of a plan
 
--- What becomes of a proxy that the rules call for. A call of `addLoad` makes one event, of one of these kinds (`OneEventEach`); no other rule makes either.
+-- What becomes of a proxy that the rules call for. A call of `addLoad` makes one event, of one of these kinds (`OneEventEach`). No other rule makes
+-- either: that is read in `Push`, where both events are said once, and not proved.
 pub data Load : Type 0 where
   listed dropped : Load
 
@@ -79,6 +80,7 @@ OneEventEach P = (enter : Step → P → P) (t : P) (why : Reason) (label : ℕ)
 -- what the state counts of the events so far
 pub record AddsUp {P : Type 0} (s : ScenePlan) (l : List (P × Event)) : Type 0 where
   pub listed : s .«load_proxies» ≡ listedProxies l
+  pub most : s .«load_proxies» ≤ maxLoadProxies
   -- "proxies that met a full list", and the count "stops at 2^64 − 1"
   pub dropped : s .«dropped_load_proxies» ≡ saturate (droppedProxies l)
   -- "Listed plus dropped proxies equal the proxies that the rules call for, until the seventh count stops"
@@ -98,8 +100,8 @@ mostDropped depth = 2 * depth - 1
 -- ---- of an accepted call
 
 -- the rules' events for the sheet of these bytes, from zeroed scratch
-abbrev pub eventsOf : List ℕ → Query → List (Unit {0} × Event)
-eventsOf s q = (freshPlan noTag note (sheetOf s) (countsOf s .cells) q tt []) .out
+abbrev pub untaggedEvents : List ℕ → Query → List (Unit {0} × Event)
+untaggedEvents s q = (freshPlan noTag note (sheetOf s) (countsOf s .cells) q tt []) .out
 
 -- "15 totals, last", of which the seventh count is the last field
 abbrev pub seventhCount : List ℕ → ℕ
@@ -108,19 +110,23 @@ seventhCount tape = uintAt 8 tape (length tape - 8)
 -- what the bytes of a tape say of the events: its records of kind 14, counted as a sheet's records are, and its last field
 pub record TapeAddsUp (tape : List ℕ) (l : List (Unit {0} × Event)) : Type 0 where
   pub listed : countOf tape 14 ≡ listedProxies l
+  pub most : countOf tape 14 ≤ maxLoadProxies
   pub dropped : seventhCount tape ≡ saturate (droppedProxies l)
   pub together : seventhCount tape < maxTotal → countOf tape 14 + seventhCount tape ≡ calledFor l
 
 abbrev pub CallAddsUp : Type 0
-CallAddsUp = (s : List ℕ) (q : Query) (o k m : List ℕ) → let c = outcomeOf s q o k m in c .number ≡ 0 → TapeAddsUp (take (c .tapeLength) (c .out)) (eventsOf s q)
+CallAddsUp = (s : List ℕ) (q : Query) (o k m : List ℕ) → let c = outcomeOf s q o k m in c .number ≡ 0 → TapeAddsUp (take (c .tapeLength) (c .out)) (untaggedEvents s q)
 
 -- "until the seventh count stops": of an accepted call it cannot stop
 abbrev pub CallDropsAtMost : Type 0
 CallDropsAtMost = (s : List ℕ) (q : Query) (o k m : List ℕ) → let c = outcomeOf s q o k m in c .number ≡ 0 → seventhCount (take (c .tapeLength) (c .out)) ≤ mostDropped (q .depth)
 
--- so its sum holds always
+-- so its sum always holds, and it never calls for more
 abbrev pub CallAlwaysAddsUp : Type 0
 CallAlwaysAddsUp = (s : List ℕ) (q : Query) (o k m : List ℕ)
     → let c = outcomeOf s q o k m in
     let tape = take (c .tapeLength) (c .out) in
-    c .number ≡ 0 → countOf tape 14 + seventhCount tape ≡ calledFor (eventsOf s q)
+    c .number ≡ 0 → countOf tape 14 + seventhCount tape ≡ calledFor (untaggedEvents s q)
+
+abbrev pub CallsForAtMost : Type 0
+CallsForAtMost = (s : List ℕ) (q : Query) (o k m : List ℕ) → (outcomeOf s q o k m) .number ≡ 0 → calledFor (untaggedEvents s q) ≤ maxLoadProxies + mostDropped (q .depth)

@@ -67,20 +67,8 @@ fn gather<'a>(query: &Query, limits: Limits, run: &'a Run, paths: &Paths) -> Res
     if run.lists.totals[1] != given.listed.len() as u64 {
         return Err("objects are not the listed batches, texts and points".to_string());
     }
-    check_calls(run, proxies as u64, given.boxes.len() as u64)?;
+    run.check_calls()?;
     Ok(given)
-}
-
-/// "a seventh count: proxies that met a full list. [...] Listed plus dropped proxies equal the proxies that the rules call for"
-fn check_calls(run: &Run, listed: u64, boxes: u64) -> Result<(), String> {
-    let (called, dropped) = (run.record.called, run.record.dropped);
-    if listed + dropped != boxes {
-        return Err(format!("{dropped} proxies are counted as dropped, not {}", boxes - listed));
-    }
-    if boxes != called {
-        return Err(format!("{boxes} proxies are listed or dropped, and {called} were called for"));
-    }
-    Ok(())
 }
 
 /// A member is measured by its exact placed box; a source without area is raised to 24 pixels, so never skipped.

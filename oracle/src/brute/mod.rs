@@ -43,7 +43,7 @@ pub struct Tally {
 const TWO_DROPPED: &str = "a plan that drops two proxies";
 
 /// How many kinds of plans a run of some thousand sheets must show.
-pub fn wanted() -> usize {
+pub fn kinds_wanted() -> usize {
     node_grids::wanted().len() + 1
 }
 

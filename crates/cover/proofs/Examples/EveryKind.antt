@@ -191,7 +191,7 @@ view-square = square-box outerBox passes
     passes : Yes (isSquareBox outerBox)
     passes = unfold opened in tt
 
--- of the output of a call: two cells at depth 3 name 6 counts and 10 marks, and the tape has 724 bytes
+-- of the output of a call: two cells at depth 3 name 6 counts and 10 marks, and the tape has 732 bytes
 abbrev out : List ℕ
 out = replicate 732 7
 

@@ -55,7 +55,7 @@ pub worked-plan : withoutTotals (eventsOf workedSheet query) ≡ (textAt 0 ∷ [
 unfolding workedSheet workedText workedCell opened openedSheet
 worked-plan = refl
 
--- 80 bytes of output, 1 count and 3 marks are enough
+-- 88 bytes of output, 1 count and 3 marks are enough
 abbrev out : List ℕ
 out = replicate 88 7
 
