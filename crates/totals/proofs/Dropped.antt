@@ -59,7 +59,7 @@ pub record Unwinds (g : ℕ) (f : Noted → NotedFlow) : Type 0 where
 
 -- ---- laws
 
-pub same : {g : ℕ} (w v : Noted) → droppedAt v ≡ droppedAt w → Adds g w v
+same : {g : ℕ} (w v : Noted) → droppedAt v ≡ droppedAt w → Adds g w v
 same w v e = by-order maxLoadProxies (v .state .«load_proxies») (λ h. filled h (omega (arith, e))) (λ h. still h e)
 
 pub more : {g h : ℕ} {w v : Noted} → g ≤ h → Adds g w v → Adds h w v
