@@ -2,7 +2,7 @@
 --     Passes       the two passes over the records, step by step
 --     Answers      each answer by what leads to it, numbers 1 and 7 among them
 --     Verdict      the verdict says all that an answer does
---     Numbered     a refusal has a number above 0
+--     Numbered     a refusal has a number from 1 to 7
 --     Valid        the answer is sound just where the sheet is valid
 --     WellFormed   a valid sheet is well formed
 --     Examples     small sheets and their answers, computed

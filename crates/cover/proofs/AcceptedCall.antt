@@ -4,7 +4,6 @@ use mathlib.Core.Path.{_≡_, refl, sym, ap, subst, _∙_}
 use mathlib.Core.Bool.{false}
 use mathlib.Core.List.{List, [], _++_}
 use Prim.Native.Nat.{ℕ, _≤_}
-use native.Mathlib.Omega.{arith}
 use lib.ListN.{length, drop, replicate}
 use lib.Dec.{T as Yes}
 use lib.IntN.{pos}
@@ -92,5 +91,5 @@ demand-3 s q o k m square true-boxes view zoom e =
     let a = accepted-call s q o k m e in
     let S = sheetOf s in
     let cells = countsOf s .cells in
-    let brought : Brought q = record { view = view; zoom = record { positive = a .zoom; most = zoom }; depth = omega (arith, a .depth) } in
+    let brought : Brought q = record { view = view; zoom = record { positive = a .zoom; most = zoom }; depth = a .depth } in
     (eventsOf s q, a .tape, demand-3-of-rules S square true-boxes (a .few) q brought cells (counts S cells q) (marks S cells q))

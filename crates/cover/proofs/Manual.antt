@@ -2,7 +2,6 @@
 -- where that placement does, since each member keeps it so.
 -- Assumes nothing.
 use mathlib.Core.List.{[]}
-use native.Mathlib.Omega.{arith}
 use Rattle.abstract_sheet.specs.Sheet.{Sheet, sheetOf}
 use Rattle.exact.specs.Placement.{vectorOf}
 use Rattle.exact.specs.Member.{gridOf}
@@ -41,4 +40,4 @@ manual-along-path s q o k m square e =
     let a = accepted-call s q o k m e in
     let S = sheetOf s in
     let cells = countsOf s .cells in
-    (eventsOf s q, a .tape, manual-along-path-of-rules S square (a .few) q (omega (arith, a .depth)) cells (counts S cells q) (marks S cells q))
+    (eventsOf s q, a .tape, manual-along-path-of-rules S square (a .few) q (a .depth) cells (counts S cells q) (marks S cells q))

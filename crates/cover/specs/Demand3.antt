@@ -14,6 +14,7 @@ use lib.ListN.{length, drop, replicate}
 use Rattle.abstract_sheet.specs.Sheet.{Sheet, sheetOf}
 use Rattle.exact.specs.Screen.{zoomPower, ZoomWithin}
 use Rattle.check_sheet.specs.Count.{countsOf}
+use Rattle.plan_rules.specs.Limits.{maxDepth}
 use Rattle.plan_rules.specs.Event.{Event}
 use Rattle.plan_rules.specs.World.{Query}
 use Rattle.plan_rules.specs.Scratch.{countsNamed, marksNamed}
@@ -49,8 +50,8 @@ pub record Brought (q : Query) : Type 0 where
   pub view : WholeView (q .view)
   -- above 0, by question 9, and "up to 2^64"
   pub zoom : ZoomWithin (q .zoom)
-  -- question 10 lets a plan ask for at most 32
-  pub depth : q .depth ≤ 48
+  -- question 10. Document 02, paper 13: "Cover of items in view includes the new depths"
+  pub depth : q .depth ≤ maxDepth
 
 -- whatever stands in the lent counts and marks
 abbrev pub Demand3OfRules : Type 0

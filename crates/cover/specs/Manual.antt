@@ -14,6 +14,7 @@ use Rattle.abstract_sheet.specs.Sheet.{NodeRecord, Sheet, sheetOf}
 use Rattle.exact.specs.Placement.{ExactPlacement, IsVector, IsPlacement, vectorOf}
 use Rattle.exact.specs.Member.{gridOf}
 use Rattle.exact.specs.Manual.{SingleReference, singleMember, manualAlong, PlacesAlong}
+use Rattle.plan_rules.specs.Limits.{maxDepth}
 use Rattle.plan_rules.specs.Event.{Event, batch, text, point}
 use Rattle.plan_rules.specs.World.{Query}
 use Rattle.plan_rules.specs.Outcome.{outcomeOf}
@@ -51,7 +52,7 @@ PlacedByManual S q trace = All (λ (x : Path × Event). IsRecord (x .1) → Stan
 
 -- of the rules, whatever stands in the lent counts and marks
 abbrev pub ManualAlongPathOfRules : Type 0
-ManualAlongPathOfRules = (S : Sheet) → Square S → FewMembers S → (q : Query) → q .depth ≤ 48 → (cells : ℕ) (counts marks : List ℕ) → PlacedByManual S q (events S cells q counts marks)
+ManualAlongPathOfRules = (S : Sheet) → Square S → FewMembers S → (q : Query) → q .depth ≤ maxDepth → (cells : ℕ) (counts marks : List ℕ) → PlacedByManual S q (events S cells q counts marks)
 
 -- of the bytes that an accepted call leaves
 abbrev pub ManualAlongPath : Type 0

@@ -10,7 +10,7 @@ ghost use Rattle.plan_rules.specs.OnTape.{fixedQuery};
 
 pub const MAX_SCENE_OBJECTS: u64 = 20_000;
 
-pub const MAX_DEPTH: u32 = 32;
+pub const MAX_DEPTH: u32 = 48;
 
 const MAX_DETAIL_CELLS: u64 = 20_000;
 

@@ -30,7 +30,7 @@ filled-starts l f e =
     (λ h. let n = ap (λ (o : Opening). o .number) (short l f h) in absurd (omega arith))
 
 checked-starts : (r : Checked) (l f : List ℕ) → Numbered r → checkedOpening r l f .number ≡ 0 → startsWith (checkedOpening r l f .finder) l ≡ true
-checked-starts (checked.Refused number offset) l f (refused positive) e = absurd (omega arith)
+checked-starts (checked.Refused number offset) l f (refused positive most) e = absurd (omega arith)
 checked-starts (checked.Sound counts) l f numbered e = filled-starts l f e
 
 pub opened-belongs : OpenedBelongs

@@ -32,12 +32,12 @@ fn run(
     plan_answer::print_answer(true, text, printed, tape);
 }
 
-// The finder has a place for each 26 bytes of input, which no sheet exceeds. Counts and marks are enough for 4,096 cells at depth 32.
+// The finder has a place for each 26 bytes of input, which no sheet exceeds. Counts and marks are enough for 4,096 cells at depth 48.
 fn lend(buffer: &mut [u8], tape: &mut [u8]) {
-    let mut finder = [0u32; 50412];
+    let mut finder = [0u32; 28356];
     let mut hidden = [0u32; 16384];
-    let mut counts = [0u64; 131072];
-    let mut marks = [0u8; 139264];
+    let mut counts = [0u64; 196608];
+    let mut marks = [0u8; 204800];
     let mut text = [0u8; 8192];
     run(
         buffer,
@@ -56,8 +56,8 @@ fn lend_tape(buffer: &mut [u8]) {
     lend(buffer, &mut tape);
 }
 
-// An input of 1,310,720 bytes fits: one that fills the buffer is too long. All buffers together leave 248 KiB of a stack of 8 MiB.
+// An input of 737,280 bytes fits: one that fills the buffer is too long. All buffers together leave 318 KiB of a stack of 8 MiB.
 fn main() {
-    let mut buffer = [0u8; 1310721];
+    let mut buffer = [0u8; 737281];
     lend_tape(&mut buffer);
 }

@@ -21,8 +21,9 @@ use Rattle.plan_rules.specs.Scratch.{countsNamed, marksNamed}
 use Rattle.plan_rules.specs.Push.{say}
 use Rattle.plan_rules.specs.Plan.{visitRoot, plan}
 use Rattle.plan_rules.specs.Tape.{noTag, note, tape}
+use Rattle.plan_rules.specs.Limits.{maxDepth}
 use Rattle.plan_rules.specs.Questions.{queryRefusal}
-use Rattle.plan_rules.specs.Outcome.{Outcome, outcome, freshPlan, tapeOf, delivered, soundOutcome, checkedOutcome, outcomeOf}
+use Rattle.plan_rules.specs.Outcome.{Outcome, outcome, freshPlan, tapeOf, delivered, soundOutcome, checkedOutcomeUpTo, outcomeUpTo, outcomeOf}
 use Rattle.plan_rules.proofs.OutcomeTheorem.{query-refused, query-passed}
 
 -- ---- a tape is not empty: it ends with its totals
@@ -74,13 +75,13 @@ module _ (S : Sheet) (cells : ℕ) (q : Query) (o k m : List ℕ) where
   told-sound = by (queryRefusal (q .view) (q .zoom) (q .depth) cells (length k) (length m)) refl
     where
       by : (n : ℕ) → n ≡ queryRefusal (q .view) (q .zoom) (q .depth) cells (length k) (length m) → Told (soundOutcome S cells q o k m)
-      by zero e = subst Told (sym (query-passed S cells q o k m (sym e))) told-delivered
-      by (suc n) e = subst Told (sym (query-refused S cells q o k m e (λ z. omega arith))) (told-refused (suc n) 0 o k m (omega arith))
+      by zero e = subst Told (sym (query-passed maxDepth S cells q o k m (sym e))) told-delivered
+      by (suc n) e = subst Told (sym (query-refused maxDepth S cells q o k m e (λ z. omega arith))) (told-refused (suc n) 0 o k m (omega arith))
 
-told-checked : (c : Checked) (S : Sheet) (q : Query) (o k m : List ℕ) → Numbered c → Told (checkedOutcome c S q o k m)
-told-checked (checked.Refused number offset) S q o k m (refused h) = told-refused number offset o k m h
+told-checked : (c : Checked) (S : Sheet) (q : Query) (o k m : List ℕ) → Numbered c → Told (checkedOutcomeUpTo maxDepth c S q o k m)
+told-checked (checked.Refused number offset) S q o k m (refused h most) = told-refused number offset o k m h
 told-checked (checked.Sound counts) S q o k m h = told-sound S (counts .cells) q o k m
 
 pub told : (s : List ℕ) (q : Query) (o k m : List ℕ) → Told (outcomeOf s q o k m)
-unfolding outcomeOf
+unfolding outcomeUpTo
 told s q o k m = told-checked (checkSheet s) (sheetOf s) q o k m (sheet-numbered s)

@@ -14,10 +14,11 @@ use Rattle.check_sheet.specs.declared.Checked.the-variants as checked
 use Rattle.check_sheet.specs.Check.{checkSheet}
 use Rattle.check_sheet.proofs.Numbered.{Numbered, refused, sheet-numbered}
 use Rattle.plan_rules.specs.declared.Answer.the-variants.{Planned, NoRoom}
+use Rattle.plan_rules.specs.Limits.{maxDepth}
 use Rattle.plan_rules.specs.World.{Query}
 use Rattle.plan_rules.specs.Scratch.{countsNamed, marksNamed}
 use Rattle.plan_rules.specs.Questions.{queryRefusal}
-use Rattle.plan_rules.specs.Outcome.{Outcome, outcome, tapeOf, zeroed, delivered, soundOutcome, checkedOutcome, outcomeOf}
+use Rattle.plan_rules.specs.Outcome.{Outcome, outcome, tapeOf, zeroed, delivered, soundOutcome, checkedOutcomeUpTo, outcomeUpTo, outcomeOf}
 use Rattle.plan_rules.proofs.OutcomeTheorem.{query-passed, accepted-passed}
 
 -- ---- question 12
@@ -48,19 +49,19 @@ pub record AcceptedOutcome (s : List ℕ) (q : Query) (o k m : List ℕ) : Type 
 
 sound-planned : (S : Sheet) (cells : ℕ) (q : Query) (o k m : List ℕ) → (soundOutcome S cells q o k m) .number ≡ 0 → soundOutcome S cells q o k m ≡ plannedOutcome S cells q o k m
 sound-planned S cells q o k m e =
-    let delivering = query-passed S cells q o k m (accepted-passed S cells q o k m e) in
+    let delivering = query-passed maxDepth S cells q o k m (accepted-passed maxDepth S cells q o k m e) in
     delivering ∙ fitted _ _ _ o k m (ap (λ (x : Outcome). x .number) (sym delivering) ∙ e)
 
 pub accepted-outcome : (s : List ℕ) (q : Query) (o k m : List ℕ) → (outcomeOf s q o k m) .number ≡ 0 → AcceptedOutcome s q o k m
-unfolding outcomeOf
+unfolding outcomeUpTo
 accepted-outcome s q o k m e = by (checkSheet s) refl (sheet-numbered s) e
   where
-    by : (x : Checked) → checkSheet s ≡ x → Numbered x → (checkedOutcome x (sheetOf s) q o k m) .number ≡ 0 → AcceptedOutcome s q o k m
-    by (checked.Refused n at) h (refused above) e = let none : n ≡ 0 = e in absurd (let y : ⊥ = omega arith in y)
+    by : (x : Checked) → checkSheet s ≡ x → Numbered x → (checkedOutcomeUpTo maxDepth x (sheetOf s) q o k m) .number ≡ 0 → AcceptedOutcome s q o k m
+    by (checked.Refused n at) h (refused above most) e = let none : n ≡ 0 = e in absurd (let y : ⊥ = omega arith in y)
     by (checked.Sound c) h f e =
         record {
           counts = c;
           sound = h;
-          passed = accepted-passed (sheetOf s) (c .cells) q o k m e;
-          planned = ap (λ (x : Checked). checkedOutcome x (sheetOf s) q o k m) h ∙ sound-planned (sheetOf s) (c .cells) q o k m e;
+          passed = accepted-passed maxDepth (sheetOf s) (c .cells) q o k m e;
+          planned = ap (λ (x : Checked). checkedOutcomeUpTo maxDepth x (sheetOf s) q o k m) h ∙ sound-planned (sheetOf s) (c .cells) q o k m e;
         }

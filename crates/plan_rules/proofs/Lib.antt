@@ -10,6 +10,7 @@
 --     Memory            the lent scratch is the Rust's memory
 --     UnusedSites       document 02, paper 3
 --     NodeGrid          document 02, paper 5
+--     Deeper            document 02, paper 13
 -- Assumes nothing.
 pub mod Cases
 pub mod Simulation
@@ -22,3 +23,4 @@ pub mod Paths
 pub mod Memory
 pub mod UnusedSites
 pub mod NodeGrid
+pub mod Deeper

@@ -1,5 +1,5 @@
 -- The outcome of a call by code path: one law for each answer, its premises the outcomes of the questions. And the tape theorem for the outcome:
--- what the run that writes leaves is what the outcome says, and its tape's end decides question 12.
+-- what the run that writes leaves is what the outcome says, and its tape's end decides question 12. Questions 1 to 11 are laws over the greatest depth that question 10 lets pass.
 -- Assumes nothing.
 use mathlib.Core.Path.{_≡_, refl, sym, ap, _∙_}
 use mathlib.Core.Bool.{Bool, true, false, cond}
@@ -19,20 +19,20 @@ use Rattle.plan_rules.specs.Limits.{maxTotal}
 use Rattle.plan_rules.specs.World.{Query, World}
 use Rattle.plan_rules.specs.Scratch.{countsNamed, marksNamed}
 use Rattle.plan_rules.specs.Tape.{noTag, onTape}
-use Rattle.plan_rules.specs.Questions.{queryRefusal}
-use Rattle.plan_rules.specs.Outcome.{Outcome, outcome, freshPlan, tapeOf, zeroed, delivered, soundOutcome, checkedOutcome, outcomeOf}
+use Rattle.plan_rules.specs.Questions.{queryRefusalUpTo}
+use Rattle.plan_rules.specs.Outcome.{Outcome, outcome, freshPlan, tapeOf, zeroed, delivered, soundOutcomeUpTo, checkedOutcomeUpTo, outcomeUpTo}
 use Rattle.plan_rules.proofs.TapeTheorem.{same-output-length, tape-end, fits-by-end, exceeds-by-end, the-tape}
 
 -- ---- questions 1 to 7
 
-module _ (s : List ℕ) (q : Query) (o k m : List ℕ) where
-  pub sheet-refused : (number offset : ℕ) → checkSheet s ≡ checked.Refused number offset → outcomeOf s q o k m ≡ outcome (Refused number offset) o k m
-  unfolding outcomeOf
-  sheet-refused number offset e = ap (λ (c : Checked). checkedOutcome c (sheetOf s) q o k m) e
+module _ (deepest : ℕ) (s : List ℕ) (q : Query) (o k m : List ℕ) where
+  pub sheet-refused : (number offset : ℕ) → checkSheet s ≡ checked.Refused number offset → outcomeUpTo deepest s q o k m ≡ outcome (Refused number offset) o k m
+  unfolding outcomeUpTo
+  sheet-refused number offset e = ap (λ (c : Checked). checkedOutcomeUpTo deepest c (sheetOf s) q o k m) e
 
-  pub sheet-sound : (counts : Counts) → checkSheet s ≡ checked.Sound counts → outcomeOf s q o k m ≡ soundOutcome (sheetOf s) (counts .cells) q o k m
-  unfolding outcomeOf
-  sheet-sound counts e = ap (λ (c : Checked). checkedOutcome c (sheetOf s) q o k m) e
+  pub sheet-sound : (counts : Counts) → checkSheet s ≡ checked.Sound counts → outcomeUpTo deepest s q o k m ≡ soundOutcomeUpTo deepest (sheetOf s) (counts .cells) q o k m
+  unfolding outcomeUpTo
+  sheet-sound counts e = ap (λ (c : Checked). checkedOutcomeUpTo deepest c (sheetOf s) q o k m) e
 
 module _ (S : Sheet) (cells : ℕ) (q : Query) (o k m : List ℕ) where
   abbrev nk : ℕ
@@ -79,20 +79,21 @@ module _ (S : Sheet) (cells : ℕ) (q : Query) (o k m : List ℕ) where
       by true e = delivered-planned small (leb-true _ _ e)
       by false e = delivered-no-room (leb-false _ _ e)
 
-  -- ---- questions 8 to 11
+-- ---- questions 8 to 11
 
+module _ (deepest : ℕ) (S : Sheet) (cells : ℕ) (q : Query) (o k m : List ℕ) where
   abbrev refusal : ℕ
-  refusal = queryRefusal (q .view) (q .zoom) (q .depth) cells (length k) (length m)
+  refusal = queryRefusalUpTo deepest (q .view) (q .zoom) (q .depth) cells (length k) (length m)
 
-  pub query-refused : {n : ℕ} → n ≡ refusal → (n ≡ 0 → ⊥) → soundOutcome S cells q o k m ≡ outcome (Refused n 0) o k m
-  unfolding soundOutcome
+  pub query-refused : {n : ℕ} → n ≡ refusal → (n ≡ 0 → ⊥) → soundOutcomeUpTo deepest S cells q o k m ≡ outcome (Refused n 0) o k m
+  unfolding soundOutcomeUpTo
   query-refused {n} e refused = rw (← e, ne-eqb n 0 refused)
 
-  pub query-passed : refusal ≡ 0 → soundOutcome S cells q o k m ≡ delivered (tapeOf S cells q) nk nm o k m
-  unfolding soundOutcome
+  pub query-passed : refusal ≡ 0 → soundOutcomeUpTo deepest S cells q o k m ≡ delivered (tapeOf S cells q) (countsNamed cells (q .depth)) (marksNamed cells (q .depth)) o k m
+  unfolding soundOutcomeUpTo
   query-passed e = rw e
 
-  pub accepted-passed : (soundOutcome S cells q o k m) .number ≡ 0 → refusal ≡ 0
+  pub accepted-passed : (soundOutcomeUpTo deepest S cells q o k m) .number ≡ 0 → refusal ≡ 0
   accepted-passed accepted = by refusal refl
     where
       by : (n : ℕ) → n ≡ refusal → refusal ≡ 0

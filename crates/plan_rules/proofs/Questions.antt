@@ -12,7 +12,7 @@ use Rattle.floats.specs.Order.{isFinite}
 use Rattle.geometry.specs.declared.bbox.WorldBBox.{WorldBBox}
 use Rattle.plan_rules.specs.Limits.{maxDepth}
 use Rattle.plan_rules.specs.Scratch.{countsNamed, marksNamed}
-use Rattle.plan_rules.specs.Questions.{viewOk, zoomOk, depthOk, hasScratch, queryRefusal}
+use Rattle.plan_rules.specs.Questions.{viewOk, zoomOk, depthOk, hasScratch, queryRefusalUpTo, queryRefusal}
 
 -- a query that passes, with so many counts and marks lent
 pub record Passed (view : WorldBBox) (zoom : Float) (depth cells counts marks : ℕ) : Type 0 where
@@ -28,7 +28,7 @@ yes true x n e = (refl, e)
 yes false x n e = absurd (let z : ⊥ = omega arith in z)
 
 pub passed : (view : WorldBBox) (zoom : Float) (depth cells counts marks : ℕ) → queryRefusal view zoom depth cells counts marks ≡ 0 → Passed view zoom depth cells counts marks
-unfolding queryRefusal depthOk hasScratch
+unfolding queryRefusalUpTo depthOk hasScratch
 passed view zoom depth cells counts marks e =
     let view-asked = yes (viewOk view) _ 7 e in
     let zoom-asked = yes (zoomOk zoom) _ 8 (view-asked .1) in

@@ -17,6 +17,7 @@
 --     Readings     the readings at the edges that document 01 marks P, as document 02 changes them
 --     UnusedSites  document 02, paper 3: its sentences, as types
 --     NodeGrid     document 02, paper 5: its sentences, as types
+--     Deeper       document 02, paper 13: its sentences, as types
 --     Statements   what is proved of the rules, as types
 -- Definitions only; the facts about them are in proofs/.
 pub mod Limits
@@ -37,4 +38,5 @@ pub mod Samples
 pub mod Readings
 pub mod UnusedSites
 pub mod NodeGrid
+pub mod Deeper
 pub mod Statements

@@ -1,5 +1,5 @@
 -- The limits of a plan, each in this one place.
--- Document 01: "Limits: 20,000 cells in detail, 20,000 objects, 10,000 texts, 100,000 proxies"; question 10, "Is depth at most 32?"; "Totals stop at 2^64 − 1".
+-- Document 01: "Limits: 20,000 cells in detail, 20,000 objects, 10,000 texts, 100,000 proxies"; question 10, "Is depth at most 32?", which document 02, paper 13, asks of 48; "Totals stop at 2^64 − 1".
 -- Rust: the constants at the head of bevy_scene.rs. Definitions only; rests on nothing.
 use Prim.Native.Nat.{ℕ}
 
@@ -19,9 +19,9 @@ maxTextInstances = 10000
 abbrev pub maxLoadProxies : ℕ
 maxLoadProxies = 100000
 
--- the depth that a query may ask for
+-- the depth that a query may ask for. Paper 13: "Only depth above 48 gets number 10."
 abbrev pub maxDepth : ℕ
-maxDepth = 32
+maxDepth = 48
 
 -- the largest total: 2^64 − 1
 abbrev pub maxTotal : ℕ

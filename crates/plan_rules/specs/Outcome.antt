@@ -12,12 +12,13 @@ use Rattle.check_sheet.specs.declared.Checked.the-variants as checked
 use Rattle.check_sheet.specs.Check.{checkSheet}
 use Rattle.plan_rules.specs.declared.Answer.{Answer}
 use Rattle.plan_rules.specs.declared.Answer.the-variants.{Planned, Refused, NoRoom}
+use Rattle.plan_rules.specs.Limits.{maxDepth}
 use Rattle.plan_rules.specs.Event.{Event, emptyPlan, saturate, Step}
 use Rattle.plan_rules.specs.World.{Query, World, world}
 use Rattle.plan_rules.specs.Scratch.{countsNamed, marksNamed}
 use Rattle.plan_rules.specs.Plan.{plan}
 use Rattle.plan_rules.specs.Tape.{noTag, note, tape}
-use Rattle.plan_rules.specs.Questions.{queryRefusal}
+use Rattle.plan_rules.specs.Questions.{queryRefusalUpTo}
 
 -- ---- an answer in document 01's numbers: the refusal's number (0 for a plan), its offset, and the tape's length, known at number 12 too
 
@@ -74,18 +75,26 @@ delivered t countsUsed marksUsed o k m =
     (outcome (Planned (length t)) (t ++ drop (length t) o) (zeroed countsUsed k) (zeroed marksUsed m))
     (outcome (NoRoom (saturate (length t))) (replicate (length o) 0) (zeroed countsUsed k) (zeroed marksUsed m))
 
--- Questions 8 to 11, then 12, for a sheet of so many cells: the first no, or the plan. "Numbers 1 to 11 touch no memory."
-unfoldable pub soundOutcome : Sheet → ℕ → Query → List ℕ → List ℕ → List ℕ → Outcome
-soundOutcome S cells q o k m =
-    let refusal = queryRefusal (q .view) (q .zoom) (q .depth) cells (length k) (length m) in
+-- Questions 8 to 11, then 12, for the greatest depth that is answered and a sheet of so many cells: the first no, or the plan. "Numbers 1 to 11 touch no memory."
+unfoldable pub soundOutcomeUpTo : ℕ → Sheet → ℕ → Query → List ℕ → List ℕ → List ℕ → Outcome
+soundOutcomeUpTo deepest S cells q o k m =
+    let refusal = queryRefusalUpTo deepest (q .view) (q .zoom) (q .depth) cells (length k) (length m) in
     cond (eqb refusal 0)
     (delivered (tapeOf S cells q) (countsNamed cells (q .depth)) (marksNamed cells (q .depth)) o k m)
     (outcome (Refused refusal 0) o k m)
 
 -- Questions 1 to 7 by the sheet's own check, then the others
-abbrev pub checkedOutcome : Checked → Sheet → Query → List ℕ → List ℕ → List ℕ → Outcome
-checkedOutcome (checked.Refused number offset) S q o k m = outcome (Refused number offset) o k m
-checkedOutcome (checked.Sound counts) S q o k m = soundOutcome S (counts .cells) q o k m
+abbrev pub checkedOutcomeUpTo : ℕ → Checked → Sheet → Query → List ℕ → List ℕ → List ℕ → Outcome
+checkedOutcomeUpTo deepest (checked.Refused number offset) S q o k m = outcome (Refused number offset) o k m
+checkedOutcomeUpTo deepest (checked.Sound counts) S q o k m = soundOutcomeUpTo deepest S (counts .cells) q o k m
 
-unfoldable pub outcomeOf : List ℕ → Query → List ℕ → List ℕ → List ℕ → Outcome
-outcomeOf s q o k m = checkedOutcome (checkSheet s) (sheetOf s) q o k m
+unfoldable pub outcomeUpTo : ℕ → List ℕ → Query → List ℕ → List ℕ → List ℕ → Outcome
+outcomeUpTo deepest s q o k m = checkedOutcomeUpTo deepest (checkSheet s) (sheetOf s) q o k m
+
+-- ---- the same with question 10 as it is asked: `maxDepth`
+
+abbrev pub soundOutcome : Sheet → ℕ → Query → List ℕ → List ℕ → List ℕ → Outcome
+soundOutcome = soundOutcomeUpTo maxDepth
+
+abbrev pub outcomeOf : List ℕ → Query → List ℕ → List ℕ → List ℕ → Outcome
+outcomeOf = outcomeUpTo maxDepth

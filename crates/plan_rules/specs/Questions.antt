@@ -20,15 +20,19 @@ viewOk v =
 unfoldable pub zoomOk : Float → Bool
 zoomOk z = isFinite z && lt (fin false 0 (pos 0)) z
 
--- 10: "Is depth at most 32?"
-unfoldable pub depthOk : ℕ → Bool
-depthOk depth = leb depth maxDepth
+-- 10: "Is depth at most 32?", of the greatest depth that is answered and a query's: document 01 asks it of 32, document 02, paper 13, of `maxDepth`
+unfoldable pub depthOk : ℕ → ℕ → Bool
+depthOk deepest depth = leb depth deepest
 
 -- 11: "Has the counts scratch cells × depth 64-bit places, and the marks scratch cells × (depth + 2) bytes?"
 unfoldable pub hasScratch : ℕ → ℕ → ℕ → ℕ → Bool
 hasScratch cells depth counts marks = leb (countsNamed cells depth) counts && leb (marksNamed cells depth) marks
 
--- "The first no is given": the refusal's number, or 0 where there is none. After view, zoom and depth: the sheet's cells, and how many counts and marks are lent.
-unfoldable pub queryRefusal : WorldBBox → Float → ℕ → ℕ → ℕ → ℕ → ℕ
-queryRefusal view zoom depth cells counts marks =
-    cond (viewOk view) (cond (zoomOk zoom) (cond (depthOk depth) (cond (hasScratch cells depth counts marks) 0 11) 10) 9) 8
+-- "The first no is given": the refusal's number, or 0 where there is none. After the greatest depth, view, zoom and depth: the sheet's cells, and how many counts
+-- and marks are lent.
+unfoldable pub queryRefusalUpTo : ℕ → WorldBBox → Float → ℕ → ℕ → ℕ → ℕ → ℕ
+queryRefusalUpTo deepest view zoom depth cells counts marks =
+    cond (viewOk view) (cond (zoomOk zoom) (cond (depthOk deepest depth) (cond (hasScratch cells depth counts marks) 0 11) 10) 9) 8
+
+abbrev pub queryRefusal : WorldBBox → Float → ℕ → ℕ → ℕ → ℕ → ℕ
+queryRefusal = queryRefusalUpTo maxDepth

@@ -587,8 +587,8 @@ fn lend(cases: &mut [u8]) {
     let mut finder = [0u32; 8];
     let mut hidden = [0u32; 1024];
     let mut tape = [0u8; 262144];
-    let mut counts = [0u64; 131072];
-    let mut marks = [0u8; 139264];
+    let mut counts = [0u64; 196608];
+    let mut marks = [0u8; 204800];
     let mut text = [0u8; 4096];
     run(
         cases,

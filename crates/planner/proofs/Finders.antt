@@ -18,30 +18,31 @@ use Rattle.finder.specs.Finder.{finderOf, belongs}
 use Rattle.finder.proofs.SheetBy.{own-finder-gives-the-sheet, no-finder-gives-the-sheet}
 use Rattle.finder.proofs.TurnedAway.{starting-with-the-finder-belongs, short-is-turned-away, different-is-turned-away}
 use Rattle.plan_rules.specs.declared.Answer.the-variants.{Refused}
+use Rattle.plan_rules.specs.Limits.{maxDepth}
 use Rattle.plan_rules.specs.World.{Query}
 use Rattle.plan_rules.specs.OnTape.{asked}
 use Rattle.plan_rules.specs.Outcome.{Outcome, outcome, soundOutcome, outcomeOf}
 use Rattle.plan_rules.proofs.OutcomeTheorem.{sheet-refused, sheet-sound}
-use Rattle.planner.specs.WithFinder.{turnedAway, checkedWith, outcomeWith}
+use Rattle.planner.specs.WithFinder.{turnedAway, checkedWithUpTo, outcomeWithUpTo, outcomeWith}
 use Rattle.planner.specs.Agreement.{OwnFinderAgrees, RefusedSheetAgrees, DifferentFinderIsRefused, ShortFinderIsRefused, AcceptedWithIsAccepted}
 
 module _ (s finder : List ℕ) (q : Query) (o k m : List ℕ) where
   pub with-refused : (number offset : ℕ) → checkSheet s ≡ checked.Refused number offset → outcomeWith s finder q o k m ≡ outcome (Refused number offset) o k m
-  unfolding outcomeWith
-  with-refused number offset e = ap (λ (c : Checked). checkedWith c s finder q o k m) e
+  unfolding outcomeWithUpTo
+  with-refused number offset e = ap (λ (c : Checked). checkedWithUpTo maxDepth c s finder q o k m) e
 
   -- the same as without a finder
   refused-agrees : (number offset : ℕ) → checkSheet s ≡ checked.Refused number offset → outcomeWith s finder q o k m ≡ outcomeOf s q o k m
-  refused-agrees number offset e = with-refused number offset e ∙ sym (sheet-refused s q o k m number offset e)
+  refused-agrees number offset e = with-refused number offset e ∙ sym (sheet-refused maxDepth s q o k m number offset e)
 
   module _ (counts : Counts) (sound : checkSheet s ≡ checked.Sound counts) where
     pub with-own : belongs finder s ≡ true → outcomeWith s finder q o k m ≡ soundOutcome (sheetOf s) (counts .cells) q o k m
-    unfolding outcomeWith
-    with-own own = ap (λ (c : Checked). checkedWith c s finder q o k m) sound ∙ rw own
+    unfolding outcomeWithUpTo
+    with-own own = ap (λ (c : Checked). checkedWithUpTo maxDepth c s finder q o k m) sound ∙ rw own
 
     pub with-foreign : belongs finder s ≡ false → outcomeWith s finder q o k m ≡ turnedAway o k m
-    unfolding outcomeWith
-    with-foreign foreign = ap (λ (c : Checked). checkedWith c s finder q o k m) sound ∙ rw foreign
+    unfolding outcomeWithUpTo
+    with-foreign foreign = ap (λ (c : Checked). checkedWithUpTo maxDepth c s finder q o k m) sound ∙ rw foreign
 
     -- with the sheet's own finder the look-ups show the sheet
     pub own-seen : belongs finder s ≡ true → soundOutcome (sheetWith s finder counts) (counts .cells) q o k m ≡ outcomeWith s finder q o k m
@@ -55,13 +56,13 @@ module _ (s finder : List ℕ) (q : Query) (o k m : List ℕ) where
     where
       by-check : (c : Checked) → checkSheet s ≡ c → outcomeWith s finder q o k m ≡ outcomeOf s q o k m
       by-check (checked.Refused number offset) e = refused-agrees number offset e
-      by-check (checked.Sound counts) e = with-own counts e own ∙ sym (sheet-sound s q o k m counts e)
+      by-check (checked.Sound counts) e = with-own counts e own ∙ sym (sheet-sound maxDepth s q o k m counts e)
 
 -- and without a finder they show it too
 pub none-seen : (s : List ℕ) (q : Query) (o k m : List ℕ) (counts : Counts) → checkSheet s ≡ checked.Sound counts
     → soundOutcome (sheetWith s [] counts) (counts .cells) q o k m ≡ outcomeOf s q o k m
 none-seen s q o k m counts sound =
-    ap (λ (S : Sheet). soundOutcome S (counts .cells) q o k m) (no-finder-gives-the-sheet s counts) ∙ sym (sheet-sound s q o k m counts sound)
+    ap (λ (S : Sheet). soundOutcome S (counts .cells) q o k m) (no-finder-gives-the-sheet s counts) ∙ sym (sheet-sound maxDepth s q o k m counts sound)
 
 pub own-finder-agrees : OwnFinderAgrees
 own-finder-agrees s more q o k m =

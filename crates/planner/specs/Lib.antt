@@ -4,6 +4,7 @@
 --     WithFinder     the outcome of a call with a finder: question 13
 --     LosesNothing   demands 2 and 3 of a call: what its proofs state
 --     Totals         paper 8 of a call: what its proofs state
+--     Deeper         paper 13 of a call with a finder: what its proofs state
 --     Agreement      a call with a finder and one without: what its proofs state
 -- Definitions and statements. Assumes nothing.
 pub mod Answered
@@ -11,4 +12,5 @@ pub mod Swept
 pub mod WithFinder
 pub mod LosesNothing
 pub mod Totals
+pub mod Deeper
 pub mod Agreement

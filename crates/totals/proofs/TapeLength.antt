@@ -15,13 +15,13 @@ use Rattle.check_sheet.specs.declared.Checked.the-variants as checked
 use Rattle.check_sheet.specs.Check.{checkSheet}
 use Rattle.plan_rules.specs.declared.ScenePlan.{ScenePlan}
 use Rattle.plan_rules.specs.declared.Answer.the-variants.{Refused}
-use Rattle.plan_rules.specs.Limits.{maxSceneObjects, maxTextInstances, maxLoadProxies}
+use Rattle.plan_rules.specs.Limits.{maxDepth, maxSceneObjects, maxTextInstances, maxLoadProxies}
 use Rattle.plan_rules.specs.Event.{Event, batch, text, point, proxy, droppedProxy, skippedMember, skippedBatch, culledReference, culledBatch, detailCell, totals, _⊞_, emptyPlan, amounts, after}
 use Rattle.plan_rules.specs.World.{Query, detailBudgetExhausted, world}
 use Rattle.plan_rules.specs.Scratch.{countsNamed, marksNamed}
 use Rattle.plan_rules.specs.Tape.{noTag, note, tape}
 use Rattle.plan_rules.specs.Questions.{queryRefusal}
-use Rattle.plan_rules.specs.Outcome.{Outcome, freshPlan, tapeOf, delivered, soundOutcome, checkedOutcome, outcomeOf}
+use Rattle.plan_rules.specs.Outcome.{Outcome, freshPlan, tapeOf, delivered, soundOutcomeUpTo, soundOutcome, checkedOutcomeUpTo, outcomeUpTo}
 use Rattle.plan_rules.proofs.Simulation.Premises.{Room, isTotals}
 use Rattle.plan_rules.proofs.Invariant.{root-kept}
 use Rattle.plan_rules.proofs.TapeTheorem.{longer}
@@ -113,7 +113,7 @@ module _ (S : Sheet) (cells : ℕ) (q : Query) (o k m : List ℕ) (few : q .obje
   at-most = tape-at-most-fresh S cells q few
 
   sound-short : Short (soundOutcome S cells q o k m)
-  unfolding soundOutcome delivered
+  unfolding soundOutcomeUpTo delivered
   sound-short =
       short-if (eqb (queryRefusal (q .view) (q .zoom) (q .depth) cells (length k) (length m)) 0) _ _
       (short-if (leb (length t) (length o)) _ _ at-most (omega (arith, at-most, at-most-counted _ (length t) refl)))
@@ -121,17 +121,17 @@ module _ (S : Sheet) (cells : ℕ) (q : Query) (o k m : List ℕ) (few : q .obje
 
   sound-enough : mostTape ≤ length o → queryRefusal (q .view) (q .zoom) (q .depth) cells (length k) (length m) ≡ 0 → (soundOutcome S cells q o k m) .number ≡ 0
   unfolding delivered
-  sound-enough enough passed = ap (λ (c : Outcome). c .number) (query-passed S cells q o k m passed) ∙ rw (le-leb (length t) (length o) (omega (arith, at-most)))
+  sound-enough enough passed = ap (λ (c : Outcome). c .number) (query-passed maxDepth S cells q o k m passed) ∙ rw (le-leb (length t) (length o) (omega (arith, at-most)))
 
 -- THE LONGEST TAPE
 pub tape-at-most : TapeAtMost
-unfolding outcomeOf
+unfolding outcomeUpTo
 tape-at-most s q o k m few = by (checkSheet s)
   where
-    by : (c : Checked) → Short (checkedOutcome c (sheetOf s) q o k m)
+    by : (c : Checked) → Short (checkedOutcomeUpTo maxDepth c (sheetOf s) q o k m)
     by (checked.Refused number offset) = omega arith
     by (checked.Sound c) = sound-short (sheetOf s) (c .cells) q o k m few
 
 pub enough-output : EnoughOutput
 enough-output s counts q o k m few enough sound passed =
-    ap (λ (c : Outcome). c .number) (sheet-sound s q o k m counts sound) ∙ sound-enough (sheetOf s) (counts .cells) q o k m few enough passed
+    ap (λ (c : Outcome). c .number) (sheet-sound maxDepth s q o k m counts sound) ∙ sound-enough (sheetOf s) (counts .cells) q o k m few enough passed

@@ -9,16 +9,16 @@ use Rattle.plan.proofs.lend.Statement.{statement}
 use Rattle.plan.proofs.lend.Tie as tie
 
 finder : tie.Need-slice-aggregate-run
-finder c = sym (length-replicate {0} {A = ℕ} 50412 0)
+finder c = sym (length-replicate {0} {A = ℕ} 28356 0)
 
 hidden : tie.Need-slice-aggregate-run-2
 hidden c = sym (length-replicate {0} {A = ℕ} 16384 0)
 
 counts : tie.Need-slice-aggregate-run-3
-counts c = sym (length-replicate {0} {A = ℕ} 131072 0)
+counts c = sym (length-replicate {0} {A = ℕ} 196608 0)
 
 marks : tie.Need-slice-aggregate-run-4
-marks c = sym (length-replicate {0} {A = ℕ} 139264 0)
+marks c = sym (length-replicate {0} {A = ℕ} 204800 0)
 
 text : tie.Need-slice-aggregate-run-5
 text c = sym (length-replicate {0} {A = ℕ} 8192 0)

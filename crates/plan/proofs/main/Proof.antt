@@ -7,7 +7,7 @@ use Rattle.plan.proofs.main.Statement.{statement}
 use Rattle.plan.proofs.main.Tie as tie
 
 buffer : tie.Need-slice-aggregate-lend-tape
-buffer c = sym (length-replicate {0} {A = ℕ} 1310721 0)
+buffer c = sym (length-replicate {0} {A = ℕ} 737281 0)
 
 lend-tape-requires : tie.Need-lend-tape-requires
 lend-tape-requires c κs = tt

@@ -60,31 +60,31 @@ abbrev untouched : ℕ → ℕ → Outcome
 untouched number offset = outcome (Refused number offset) (replicate 90 7) (replicate 4 8) (replicate 5 9)
 
 -- a record of 5 bytes at the end: 2, with its offset, before any question about the query
-pub broken-record : call (workedSheet ++ (6 ∷ 0 ∷ 0 ∷ 0 ∷ 1 ∷ [])) (viewing (page 100 100) (whole 0) 33 maxSceneObjects) 90 ≡ untouched 2 86
+pub broken-record : call (workedSheet ++ (6 ∷ 0 ∷ 0 ∷ 0 ∷ 1 ∷ [])) (viewing (page 100 100) (whole 0) 49 maxSceneObjects) 90 ≡ untouched 2 86
 unfolding workedText workedCell workedSheet opened openedSheet
 broken-record = refl
 
 -- each of these queries has the next fault too: the first no is given
-pub view-turned : call workedSheet (viewing (bbox (whole 1) (whole 0) (whole 0) (whole 1)) (whole 0) 33 maxSceneObjects) 90 ≡ untouched 8 0
+pub view-turned : call workedSheet (viewing (bbox (whole 1) (whole 0) (whole 0) (whole 1)) (whole 0) 49 maxSceneObjects) 90 ≡ untouched 8 0
 unfolding workedText workedCell workedSheet opened openedSheet
 view-turned = refl
 
-pub no-zoom : call workedSheet (viewing (page 100 100) (whole 0) 33 maxSceneObjects) 90 ≡ untouched 9 0
+pub no-zoom : call workedSheet (viewing (page 100 100) (whole 0) 49 maxSceneObjects) 90 ≡ untouched 9 0
 unfolding workedText workedCell workedSheet opened openedSheet
 no-zoom = refl
 
-pub negative-zoom : call workedSheet (viewing (page 100 100) (neg (whole 1)) 33 maxSceneObjects) 90 ≡ untouched 9 0
+pub negative-zoom : call workedSheet (viewing (page 100 100) (neg (whole 1)) 49 maxSceneObjects) 90 ≡ untouched 9 0
 unfolding workedText workedCell workedSheet opened openedSheet
 negative-zoom = refl
 
-pub too-deep : call workedSheet (viewing (page 100 100) (whole 1) 33 maxSceneObjects) 90 ≡ untouched 10 0
+pub too-deep : call workedSheet (viewing (page 100 100) (whole 1) 49 maxSceneObjects) 90 ≡ untouched 10 0
 unfolding workedText workedCell workedSheet opened openedSheet
 too-deep = refl
 
--- depth 32 is asked for the scratch: 32 counts are wanted
-pub depth-32 : call workedSheet (viewing (page 100 100) (whole 1) 32 maxSceneObjects) 90 ≡ untouched 11 0
+-- depth 48 is asked for the scratch: 48 counts are wanted
+pub depth-48 : call workedSheet (viewing (page 100 100) (whole 1) 48 maxSceneObjects) 90 ≡ untouched 11 0
 unfolding workedText workedCell workedSheet opened openedSheet
-depth-32 = refl
+depth-48 = refl
 
 -- depth 4: 4 counts are there, 6 marks are not
 pub few-marks : call workedSheet (viewing (page 100 100) (whole 1) 4 maxSceneObjects) 90 ≡ untouched 11 0

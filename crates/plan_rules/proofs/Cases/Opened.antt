@@ -13,9 +13,9 @@ use Rattle.plan_rules.specs.Push.{say, addLoad, pushFoundGeometry, pushG
 use Rattle.plan_rules.specs.Visit.{sourceUnits, geometryStep, textStep, nodeStep, referenceStep, cellBody, visitFoundCell, visitSourceWith, memberStep, columnStep, visitCountedReference, visitBoxedReference, visitSourcedReference, visitFoundReference, visitReference, visitSource, visitCell}
 use Rattle.plan_rules.specs.Plan.{loadRootBox, loadRoot, visitRoot, plan}
 use Rattle.plan_rules.specs.Tape.{putRecord, onTape}
-use Rattle.plan_rules.specs.Questions.{viewOk, zoomOk, depthOk, hasScratch, queryRefusal}
-use Rattle.plan_rules.specs.Outcome.{freshPlan, tapeOf, zeroed, delivered, soundOutcome, outcomeOf}
+use Rattle.plan_rules.specs.Questions.{viewOk, zoomOk, depthOk, hasScratch, queryRefusalUpTo}
+use Rattle.plan_rules.specs.Outcome.{freshPlan, tapeOf, zeroed, delivered, soundOutcomeUpTo, outcomeUpTo}
 
 unfoldable pub opened : ℕ
-unfolding grid.opened screen.opened abstract.opened saturate _⊞_ emptyPlan after contains hides detailCellsFull detailBudgetExhausted each place countsNamed marksNamed fold referenceDrawUnitsWith foundDrawUnits addReferenceUnits remember cellDrawUnitsWith sourceDrawUnitsWith referenceDrawUnits sourceDrawUnits cellDrawUnits say addLoad pushFoundGeometry pushGeometry pushFoundText pushText pushPoint pushFoundNode pushNode label sourceUnits geometryStep textStep nodeStep referenceStep cellBody visitFoundCell visitSourceWith memberStep columnStep visitCountedReference visitBoxedReference visitSourcedReference visitFoundReference visitReference visitSource visitCell loadRootBox loadRoot visitRoot plan encode putRecord onTape viewOk zoomOk depthOk hasScratch queryRefusal freshPlan tapeOf zeroed delivered soundOutcome outcomeOf
+unfolding grid.opened screen.opened abstract.opened saturate _⊞_ emptyPlan after contains hides detailCellsFull detailBudgetExhausted each place countsNamed marksNamed fold referenceDrawUnitsWith foundDrawUnits addReferenceUnits remember cellDrawUnitsWith sourceDrawUnitsWith referenceDrawUnits sourceDrawUnits cellDrawUnits say addLoad pushFoundGeometry pushGeometry pushFoundText pushText pushPoint pushFoundNode pushNode label sourceUnits geometryStep textStep nodeStep referenceStep cellBody visitFoundCell visitSourceWith memberStep columnStep visitCountedReference visitBoxedReference visitSourcedReference visitFoundReference visitReference visitSource visitCell loadRootBox loadRoot visitRoot plan encode putRecord onTape viewOk zoomOk depthOk hasScratch queryRefusalUpTo freshPlan tapeOf zeroed delivered soundOutcomeUpTo outcomeUpTo
 opened = 0

@@ -18,10 +18,10 @@ tape : tie.Need-slice-aggregate-run-3
 tape c = sym (length-replicate {0} {A = ℕ} 262144 0)
 
 counts : tie.Need-slice-aggregate-run-4
-counts c = sym (length-replicate {0} {A = ℕ} 131072 0)
+counts c = sym (length-replicate {0} {A = ℕ} 196608 0)
 
 marks : tie.Need-slice-aggregate-run-5
-marks c = sym (length-replicate {0} {A = ℕ} 139264 0)
+marks c = sym (length-replicate {0} {A = ℕ} 204800 0)
 
 text : tie.Need-slice-aggregate-run-6
 text c = sym (length-replicate {0} {A = ℕ} 4096 0)

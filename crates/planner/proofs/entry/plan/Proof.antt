@@ -12,7 +12,7 @@ refused : tie.Need-returns
 refused c =
     let at-number = c .before in
     let at-check-sheet = at-number .before .before in
-    sym (sheet-refused _ _ _ _ _ _ _ (sym (checked-as _ _ (at-check-sheet .check-sheet .ensures)) ∙ at-number .number .given .1))
+    sym (sheet-refused _ _ _ _ _ _ _ _ (sym (checked-as _ _ (at-check-sheet .check-sheet .ensures)) ∙ at-number .number .given .1))
 
 sound : tie.Need-returns-2
 sound c =

@@ -13,7 +13,7 @@ use Rattle.planner.proofs.entry.plan_sound.Statement.{statement}
 use Rattle.planner.proofs.entry.plan_sound.Tie as tie
 
 refused : tie.Need-returns
-refused c = sym (query-refused _ _ _ _ _ _ (c .before .query-refusal .ensures) (c .if1 .taken))
+refused c = sym (query-refused _ _ _ _ _ _ _ (c .before .query-refusal .ensures) (c .if1 .taken))
 
 counts-fit : tie.Need-slice-relend-prefix-visit-clean
 counts-fit c =
@@ -53,7 +53,7 @@ planned c =
     let marks = marks-lent _ _ _ _ _ _ (asked .query-refusal .ensures) (else1 .if1 .left) (marks-named .marks-named .ensures) in
     sweep-delivered (given (record { options = a .query; «object_limit» = maxSceneObjects; counts = a .kinds }) (a .sheet) (a .finder) (a .hidden)) _ _ _ _ _ (counts-named .counts-named .ensures) (marks-named .marks-named .ensures) counts marks
     (omega (arith, start .good)) _ _ _ _ (at-visit-clean .visit-clean .ensures) (at-finish .finish .result) _ (at-finish .finish .ensures)
-    ∙ sym (query-passed _ _ _ _ _ _ (sym (asked .query-refusal .ensures) ∙ else1 .if1 .left))
+    ∙ sym (query-passed _ _ _ _ _ _ _ (sym (asked .query-refusal .ensures) ∙ else1 .if1 .left))
 
 pub plan-sound-spec : {M : Type 1} → statement M
 plan-sound-spec =
