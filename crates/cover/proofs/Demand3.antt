@@ -2,6 +2,8 @@
 -- Assumes nothing.
 use mathlib.Core.Path.{refl, sym, _∙_, subst}
 use mathlib.Core.List.{List, []}
+use Prim.Native.Nat.{_≤_}
+use native.Mathlib.Omega.{arith}
 use Rattle.abstract_sheet.specs.Sheet.{Sheet}
 use Rattle.exact.specs.Screen.{ZoomWithin}
 use Rattle.plan_rules.specs.Event.{Event, Step, emptyPlan}
@@ -30,12 +32,14 @@ pub demand-3-of-rules : Demand3OfRules
 demand-3-of-rules S square true-boxes few q brought cells counts marks =
     let begin : World Tagged = world emptyPlan [] counts marks in
     let tagged : Tagged = (plan enter note S cells q [] begin) .out in
-    let facts = plan-facts S q few square cells (brought .depth) begin refl in
+    -- the levels within which placements are exact
+    let within : q .depth ≤ 48 = omega (arith, brought .depth) in
+    let facts = plan-facts S q few square cells within begin refl in
     record {
       covered = λ p h leads v shown.
           paths-any (λ (x : Path × Event). Covers S q p h (x .0) (x .1)) tagged
-          (any-map _ (λ x k. covers S q (brought .zoom) p h (x .0) (x .1) (k .0) (k .1)) (any-all (plan-claims S cells q (brought .view) few square true-boxes (brought .depth) p h leads v shown begin) facts));
-      listed = plan-listed S q few square cells (brought .depth) counts marks;
+          (any-map _ (λ x k. covers S q (brought .zoom) p h (x .0) (x .1) (k .0) (k .1)) (any-all (plan-claims S cells q (brought .view) few square true-boxes within p h leads v shown begin) facts));
+      listed = plan-listed S q few square cells within counts marks;
       once = no-path-twice tagged (plan-once S cells q counts marks);
       dropped = plan-drops-when-full S cells q counts marks;
       counted = plan-counts-dropped S cells q counts marks;
