@@ -112,10 +112,11 @@ static size_t digits(uint64_t value)
 
 /* ---- the papers' sentences */
 
-static void expect_tape(const uint8_t *tape, size_t length)
+static void expect_tape(const uint8_t *tape, size_t length, uint32_t depth)
 {
     static const size_t lengths[5] = { 58, 26, 26, 42, 62 };
     size_t at = 0, listed[5] = { 0, 0, 0, 0, 0 }, i;
+    uint64_t dropped;
     while (at < length) {
         size_t record, kind;
         expect(length - at >= 6, "a record has a head");
@@ -131,8 +132,9 @@ static void expect_tape(const uint8_t *tape, size_t length)
     expect(ribaltzen_field(tape + length - 48, 8) == listed[0] + listed[1] + listed[2], "objects are the batches, texts and points");
     expect(listed[0] + listed[1] + listed[2] <= 20000 && listed[1] <= 10000 && listed[3] <= 100000, "the limits hold");
     expect(ribaltzen_field(tape + length - 56, 8) <= 20000, "at most 20,000 cells are in detail");
-    expect(ribaltzen_field(tape + length - 8, 8) == 0 || listed[3] == 100000, "only a full list drops proxies");
-    expect(ribaltzen_field(tape + length - 8, 8) <= 63, "at depth 32 or less at most 63 proxies are dropped");
+    dropped = ribaltzen_field(tape + length - 8, 8);
+    expect(dropped == 0 || listed[3] == 100000, "only a full list drops proxies");
+    expect(dropped <= (depth == 0 ? 0 : 2 * depth - 1), "at most 2 * depth - 1 proxies are dropped");
     for (i = 0; i < 5; i++) {
         features[LISTED + 32 * i + digits(listed[i]) % 32] = 1;
     }
@@ -170,7 +172,7 @@ static void expect_memory(const struct input *in, struct answer answer, const st
     }
     expect(answer.length <= lent->out_length && answer.length >= 62, "the tape lies within the output");
     expect(all(lent->out, answer.length, lent->out_length, fill), "output past the tape is as lent");
-    expect_tape(lent->out, answer.length);
+    expect_tape(lent->out, answer.length, in->depth);
 }
 
 struct answer checked(const struct input *in, const struct finder *finder, const size_t sizes[3], uint8_t fill, uint8_t **tape)
@@ -221,7 +223,7 @@ static void again(const struct input *in, size_t cells, size_t length, const uin
 int LLVMFuzzerTestOneInput(const uint8_t *data, size_t size)
 {
     struct input in = read_input(data, size);
-    size_t cells = cells_of(&in), depth = in.depth <= 32 ? in.depth : 1;
+    size_t cells = cells_of(&in), depth = in.depth <= RIBALTZEN_MOST_DEPTH ? in.depth : 1;
     size_t sizes[3] = { 16384, cells * depth + 3, cells * (depth + 2) + 3 };
     uint8_t *tape = NULL;
     struct answer answer = checked(&in, NULL, sizes, 0xa5, &tape);

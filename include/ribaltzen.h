@@ -25,9 +25,9 @@ extern "C" {
 #endif
 
 #define RIBALTZEN_VERSION_MAJOR 0
-#define RIBALTZEN_VERSION_MINOR 6
+#define RIBALTZEN_VERSION_MINOR 7
 #define RIBALTZEN_VERSION_PATCH 0
-#define RIBALTZEN_VERSION "0.6.0"
+#define RIBALTZEN_VERSION "0.7.0"
 
 /* What the functions return: 0, else the refusal's number. ribaltzen_refusal has the question answered "no". */
 enum {
@@ -62,7 +62,7 @@ enum {
  *     masked. Under another rounding or with flushing a call can give another plan, and nothing says so: test_floats.c
  *     shows each. A program that was linked with -ffast-math, or loads a library that was, may start with flushing set.
  *   - No length is above PTRDIFF_MAX bytes, which no real object is.
- *   - The thread has 128 KiB of stack left: no proof covers the stack. docs/FORMATS.md has what was measured.
+ *   - The thread has 192 KiB of stack left: no proof covers the stack. docs/FORMATS.md has what was measured.
  *
  * How long a plan takes is not bounded by anything useful, with a finder or without: every call ends, but a small sheet
  * can name a very large number of members to visit. A host that opens strangers' sheets plans on a thread or process
@@ -150,7 +150,7 @@ uint32_t scene_plan_with_finder(const uint8_t *sheet, size_t sheet_length,
 #define RIBALTZEN_LEAST_RECORD ((size_t)26)     /* bytes: a text without a value, a node of one point */
 #define RIBALTZEN_MOST_PLACES (RIBALTZEN_MOST_SHEET / RIBALTZEN_LEAST_RECORD) /* of a finder: 645,277 */
 #define RIBALTZEN_MOST_CELLS ((size_t)4096)
-#define RIBALTZEN_MOST_DEPTH ((uint32_t)32)
+#define RIBALTZEN_MOST_DEPTH ((uint32_t)48)
 #define RIBALTZEN_MOST_TAPE ((size_t)5360062) /* bytes: 100,000 proxies, 20,000 batches and the totals; no tape is
                                                  longer: theorem tape-at-most (crates/totals) */
 #define RIBALTZEN_MOST_COUNTS (RIBALTZEN_MOST_CELLS * RIBALTZEN_MOST_DEPTH)      /* places of 64 bits */
@@ -173,7 +173,7 @@ static inline const char *ribaltzen_refusal(uint32_t number)
     case RIBALTZEN_TOO_MANY_CELLS: return "Are there at most 4,096 cells?";
     case RIBALTZEN_BAD_VIEW: return "Is the view finite, min at most max?";
     case RIBALTZEN_BAD_ZOOM: return "Is zoom finite and above 0?";
-    case RIBALTZEN_TOO_DEEP: return "Is depth at most 32?";
+    case RIBALTZEN_TOO_DEEP: return "Is depth at most 48?";
     case RIBALTZEN_SCRATCH_TOO_SHORT: return "Are both scratch areas large enough?";
     case RIBALTZEN_OUTPUT_TOO_SHORT: return "Does the whole tape fit the lent output?";
     case RIBALTZEN_WRONG_FINDER: return "Is the finder long enough and, when planning, the sheet's own?";

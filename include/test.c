@@ -42,6 +42,7 @@ int main(int count, char **arguments)
     test_words(arguments[1], arguments[2]);
     test_scratch();
     test_finder();
+    test_depth();
     test_stored(arguments[3]);
     test_tape();
     test_damage();

@@ -93,6 +93,7 @@ void test_plan(void);
 void test_words(const char *cargo, const char *formats);
 void test_scratch(void);
 void test_finder(void);
+void test_depth(void);
 void test_stored(const char *cases);
 void test_tape(void);
 void test_damage(void);

@@ -393,7 +393,7 @@ static void test_later_questions(const struct asked *asked)
         struct call call;
         faulty.view[0] = i == 0 ? 101.0 : 0.0;
         faulty.zoom = i == 1 ? 0.0 : 1.0;
-        faulty.depth = i == 2 ? 33 : 4;
+        faulty.depth = i == 2 ? 49 : 4;
         call = plan_by(&faulty, mixed_places, 8, rooms[i]);
         expect(call.number == numbers[i], "the number that a fault gets");
         give_back(&call);

@@ -73,8 +73,8 @@ static void test_hostile_bytes(void)
     struct lent lent;
     size_t round, changes, seen[13] = { 0 };
     for (round = 0; round < 20000; round++) {
-        const size_t out = random_below(sizeof lent.out + 1), counts = random_below(70), marks = random_below(70);
-        const uint32_t depth = (uint32_t)random_below(35);
+        const size_t out = random_below(sizeof lent.out + 1), counts = random_below(102), marks = random_below(102);
+        const uint32_t depth = (uint32_t)random_below(51);
         uint32_t number;
         sheet = sound;
         for (changes = random_below(4); changes > 0; changes--) {

@@ -144,7 +144,7 @@ static void test_changed_sheets(void)
         if (length > 0) {
             sheet[random_below(length)] = (uint8_t)random_below(256);
         }
-        accepted += (size_t)expect_sheet(sheet, length, (uint32_t)random_below(35));
+        accepted += (size_t)expect_sheet(sheet, length, (uint32_t)random_below(51));
         free(sheet);
     }
     expect(accepted > 1000 && accepted < 19000, "some changed sheets are accepted, some refused");
@@ -154,12 +154,14 @@ void test_scratch(void)
 {
     size_t cells;
     for (cells = 0; cells < 8; cells++) {
-        test_cells(cells, 0, 32, 0);
-        test_cells(cells, 33, 34, RIBALTZEN_TOO_DEEP);
+        test_cells(cells, 0, 48, 0);
+        test_cells(cells, 49, 50, RIBALTZEN_TOO_DEEP);
         test_cells(cells, UINT32_MAX - 2, UINT32_MAX - 1, RIBALTZEN_TOO_DEEP);
     }
-    test_cells(4096, 30, 32, 0);
-    test_cells(4097, 31, 34, RIBALTZEN_TOO_MANY_CELLS);
+    test_cells(4096, 32, 33, 0);
+    test_cells(4096, 47, 48, 0);
+    test_cells(4097, 47, 50, RIBALTZEN_TOO_MANY_CELLS);
+    expect(RIBALTZEN_MOST_COUNTS == 196608 && RIBALTZEN_MOST_MARKS == 204800, "the greatest scratch");
     test_longest_sheet();
     test_heads();
     test_changed_sheets();

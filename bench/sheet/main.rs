@@ -65,14 +65,14 @@ fn open(sheet: &[u8], finder: &mut [u32]) -> usize {
     places
 }
 
-/// Questions 1 to 7 and the comparison of the finder: depth 33 is refused by number 10, and nothing is planned.
+/// Questions 1 to 7 and the comparison of the finder: depth 49 is refused by number 10, and nothing is planned.
 fn compare(sheet: &[u8], finder: &[u32]) -> u32 {
     let (mut offset, mut length) = (usize::MAX, usize::MAX);
     let (hidden, mut out, mut counts, mut marks) = ([0u32; 0], [0u8; 0], [0u64; 0], [0u8; 0]);
     // SAFETY: slices as above; what may be written is lent empty.
     unsafe {
         scene_plan_with_finder(
-            sheet.as_ptr(), sheet.len(), finder.as_ptr(), finder.len(), 0, 33, 0.0, 0.0, 0.0, 0.0, 1.0,
+            sheet.as_ptr(), sheet.len(), finder.as_ptr(), finder.len(), 0, 49, 0.0, 0.0, 0.0, 0.0, 1.0,
             hidden.as_ptr(), 0, out.as_mut_ptr(), 0, counts.as_mut_ptr(), 0, marks.as_mut_ptr(), 0, &mut offset,
             &mut length,
         )

@@ -68,7 +68,7 @@ const WRONG_FINDER: u32 = 13;
 /// Plans a sheet with a finder: `finder` begins with what [`crate::open`] fills in for this sheet, or the call is refused with
 /// 13, so it may be any list. It always answers, but a small hostile sheet can take very long.
 ///
-/// The thread needs 128 KiB of stack left: no proof covers the stack.
+/// The thread needs 192 KiB of stack left: no proof covers the stack.
 ///
 /// # Panics
 ///

@@ -36,7 +36,7 @@ pub const MOST_TAPE: usize =
 /// The most cells that a sheet may have.
 pub const MOST_CELLS: usize = 4_096;
 /// The greatest depth of a query.
-pub const MOST_DEPTH: u32 = 32;
+pub const MOST_DEPTH: u32 = 48;
 /// The most bytes that a sheet may have.
 pub const MOST_SHEET: usize = 16_777_216;
 /// The most records that a sheet may have, and so the places of a finder that are always enough.

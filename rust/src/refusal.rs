@@ -33,7 +33,7 @@ impl Refusal {
             7 => "Are there at most 4,096 cells?",
             8 => "Is the view finite, min at most max?",
             9 => "Is zoom finite and above 0?",
-            10 => "Is depth at most 32?",
+            10 => "Is depth at most 48?",
             11 => "Are both scratch areas large enough?",
             12 => "Does the whole tape fit the lent output?",
             13 => "Is the finder long enough and, when planning, the sheet's own?",

@@ -14,16 +14,16 @@ fn sizes(out: usize, counts: usize, marks: usize) -> String {
 
 #[test]
 fn sizes_for_every_call() {
-    let enough = sizes(5_360_062, 4_096 * 32, 4_096 * 34);
+    let enough = sizes(5_360_062, 4_096 * 48, 4_096 * 50);
     assert_eq!(format!("{:?}", Buffers::new()), enough);
     assert_eq!(format!("{:?}", Buffers::default()), enough);
 }
 
 #[test]
 fn no_number_of_cells_or_depth_overflows() {
-    for (cells, depth) in [(usize::MAX, u32::MAX), (usize::MAX, 32), (4_096, u32::MAX)] {
+    for (cells, depth) in [(usize::MAX, u32::MAX), (usize::MAX, 48), (4_096, u32::MAX)] {
         let buffers = Buffers::with_sizes(0, cells, depth);
-        assert_eq!(format!("{buffers:?}"), sizes(0, 4_096 * 32, 4_096 * 34));
+        assert_eq!(format!("{buffers:?}"), sizes(0, 4_096 * 48, 4_096 * 50));
     }
     let none = Buffers::with_sizes(1, usize::MAX, 0);
     assert_eq!(format!("{none:?}"), sizes(1, 0, 4_096 * 2));

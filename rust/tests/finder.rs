@@ -178,7 +178,7 @@ fn the_own_finder_changes_nothing() {
             AMPLE,
         ),
         (9, Query { zoom: 0.0, ..QUERY }, AMPLE),
-        (10, Query { depth: 33, ..QUERY }, AMPLE),
+        (10, Query { depth: 49, ..QUERY }, AMPLE),
         (11, QUERY, [400, 7, 20]),
         (11, QUERY, [400, 20, 11]),
         (12, QUERY, [323, 20, 20]),

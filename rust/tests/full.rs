@@ -49,21 +49,28 @@ fn a_full_plan_counts_what_was_dropped() {
     }
 }
 
-/// Cells 0 to 31, each but the last with two rows of the next, and without draw units, so that no row is dense. In the
-/// second member of the last row the list is full, and all 32 cells and 31 rows go on.
-#[test]
-fn a_descent_drops_a_proxy_for_each_cell_and_row() {
+/// So many cells, each but the last with two rows of the next, and without draw units, so that no row is dense.
+fn descent_of(cells: u32) -> Vec<u8> {
     let mut sheet = dense();
-    for number in 0..31 {
+    for number in 0..cells - 1 {
         sheet.extend(reference(3, number + 1, [0.0, 0.0], SQUARE));
         let lists: [&[u32]; 4] = [&[], &[], &[], &[number, number]];
         sheet.extend(cell_of_units(0, Some(SQUARE), lists));
     }
     let lists: [&[u32]; 4] = [&[0; 50_001], &[], &[], &[]];
     sheet.extend(cell_of_units(0, Some(SQUARE), lists));
+    sheet
+}
+
+/// In the second member of the last row the list is full, and all cells and rows go on: 2 × depth − 1 of them.
+#[test]
+fn a_descent_drops_a_proxy_for_each_cell_and_row() {
     let mut buffers = Buffers::new();
-    let plan = buffers.plan(&sheet, &Query::new(0, 32, VIEW, 1.0)).unwrap();
-    assert_eq!(listed_and_dropped(&plan), (100_000, 63));
+    for (depth, dropped) in [(2, 3), (32, 63), (33, 65), (48, 95)] {
+        let query = Query::new(0, depth, VIEW, 1.0);
+        let plan = buffers.plan(&descent_of(depth), &query).unwrap();
+        assert_eq!(listed_and_dropped(&plan), (100_000, dropped));
+    }
 }
 
 /// After 39,999 dense batches of the root and 60,000 of cell 1, cell 2 lists as many objects as may be, and its own box is

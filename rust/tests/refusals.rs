@@ -70,7 +70,9 @@ fn numbers_8_to_10_for_the_query() {
     for zoom in [0.0, -0.0, -1.0, f64::NAN, f64::INFINITY] {
         assert_eq!(refused(&sheet, &Query { zoom, ..QUERY }), (9, 0));
     }
-    assert_eq!(refused(&sheet, &Query { depth: 33, ..QUERY }), (10, 0));
+    for depth in [49, u32::MAX] {
+        assert_eq!(refused(&sheet, &Query { depth, ..QUERY }), (10, 0));
+    }
 }
 
 /// The refusal and the memory after a call with so many bytes and places, all filled with 7.
@@ -135,7 +137,7 @@ fn a_refusal_says_what_was_asked() {
     );
     assert_eq!(
         refusal(10, 0, None).to_string(),
-        "refused with number 10: Is depth at most 32? No."
+        "refused with number 10: Is depth at most 48? No."
     );
     assert_eq!(
         refusal(12, 0, Some(88)).to_string(),

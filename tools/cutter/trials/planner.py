@@ -94,7 +94,8 @@ FACTS = [
     ("number 7", NEAR, "cell\n" * 4097, "refused 7 0"),
     ("number 8", NEAR.replace("view=0,0,9,9", "view=9,0,0,9"), "cell", "refused 8 0"),
     ("number 9", NEAR.replace("zoom=1", "zoom=0"), "cell", "refused 9 0"),
-    ("number 10", NEAR.replace("depth=8", "depth=33"), "cell", "refused 10 0"),
+    ("number 10", NEAR.replace("depth=8", "depth=49"), "cell", "refused 10 0"),
+    ("the greatest depth, with as many cells as may be", NEAR.replace("depth=8", "depth=48"), "cell\n" * 4096, "totals 1 0 0 0 0 0 0"),
 ]
 
 
@@ -185,6 +186,21 @@ def try_full(plan):
         same("%d fields, references %s" % (fields, listed), [len(lines), lines[-1]], [100001, "totals 21 0 0 0 0 0 %d" % dropped])
 
 
+def try_deep(plan):
+    """The sheet that nests deeply, to each depth: as many stages as the depth, and a box where the depth ends before the last. The ends
+    of two plans as the page shows them."""
+    sample, shown = file_text("samples", "deep.txt"), blocks_behind(file_text("docs", "SHEETS.md"), "deep.txt")
+    plans = {depth: printed(plan, sample.replace("depth=48", "depth=%d" % depth)).splitlines(keepends=True) for depth in range(49)}
+    for depth, lines in plans.items():
+        stages = min(depth, 40)
+        rest = ["proxy %d" % (39 - depth)] if depth < 40 else ["text 0"]
+        found = [" ".join(line.split()[:2]) for line in lines[:-1]] + [lines[-1].strip()]
+        objects = stages + (depth >= 40)
+        same("deep.txt at depth %d" % depth, found, ["batch 0"] * stages + rest + ["totals %d %d 0 0 0 0 0" % (stages, objects)])
+    for place, depth, count in ((0, 48, 3), (1, 32, 2)):
+        same("deep.txt at depth %d in docs/SHEETS.md" % depth, "".join("    " + line for line in plans[depth][-count:]), shown[place])
+
+
 def run(plan):
     try_boxes(plan, 100)
     try_facts(plan)
@@ -193,3 +209,4 @@ def run(plan):
     try_sites(plan)
     try_nodes(plan)
     try_full(plan)
+    try_deep(plan)

@@ -45,7 +45,7 @@ def try_left_to_plan():
     query = "query root=0 depth=%s view=%s zoom=%s"
     same("number 8", cut(query % (1, "9,0,0,9", 1))[14:46], struct.pack("<4d", 9, 0, 0, 9))
     same("number 9", cut(query % (1, "0,0,9,9", "-0.0"))[46:], struct.pack("<d", -0.0))
-    same("number 10", cut(query % (33, "0,0,9,9", 1))[10:14], struct.pack("<I", 33))
+    same("number 10", cut(query % (49, "0,0,9,9", 1))[10:14], struct.pack("<I", 49))
     wide = records(cut(QUERY + "reference source=cell:4294967295 at=0,0 columns=65535"))[4][0]
     same("number 4", struct.unpack_from("<HHHHI", wide), (65535, 1, 0, 5, 4294967295))
     same("number 7", len(records(cut(QUERY + "cell\n" * 4097))[5]), 4097)
