@@ -13,7 +13,7 @@ use Rattle.abstract_sheet.proofs.Examples.{workedText, workedCell, workedSheet}
 use Rattle.plan_rules.specs.declared.Answer.the-variants.{Refused}
 use Rattle.plan_rules.specs.declared.Reason.the-variants as reason
 use Rattle.plan_rules.specs.Limits.{maxSceneObjects}
-use Rattle.plan_rules.specs.Event.{Event, text, proxy, detailCell}
+use Rattle.plan_rules.specs.Event.{text, proxy, detailCell}
 use Rattle.plan_rules.specs.World.{Query}
 use Rattle.plan_rules.specs.Outcome.{outcome, outcomeUpTo, outcomeOf}
 use Rattle.plan_rules.specs.Deeper.{formerMaxDepth}
