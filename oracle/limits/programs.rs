@@ -69,12 +69,12 @@ impl Program {
 /// At the limits of the buffers for the input, the finder and the hidden layers. The input's limit is met before the finder's.
 fn at_buffers() -> Vec<Program> {
     let layers = |count: usize| [query(count), sheet()].concat();
-    let listed = WORKED.replace("text 0", "text 50406");
+    let listed = WORKED.replace("text 0", "text 28351");
     let cases = [
-        ("an input of 1,310,720 bytes", of_length(1_310_720), WORKED),
-        ("an input of 1,310,721 bytes", of_length(1_310_721), "too long\n"),
-        ("50,410 texts and no cell", [query(0), text(0).repeat(50_410)].concat(), "totals 0 0 0 0 0 0 0\n"),
-        ("50,407 texts and a cell that lists the last", [query(0), sheet_of_texts(50_407)].concat(), &listed),
+        ("an input of 737,280 bytes", of_length(737_280), WORKED),
+        ("an input of 737,281 bytes", of_length(737_281), "too long\n"),
+        ("28,354 texts and no cell", [query(0), text(0).repeat(28_354)].concat(), "totals 0 0 0 0 0 0 0\n"),
+        ("28,352 texts and a cell that lists the last", [query(0), sheet_of_texts(28_352)].concat(), &listed),
         ("16,384 hidden layers", layers(16_384), WORKED),
         ("16,385 hidden layers", layers(16_385), "too long\n"),
     ];
@@ -84,7 +84,7 @@ fn at_buffers() -> Vec<Program> {
 /// Large cases that need all of the scratch, and all of the tape.
 fn at_lent(large: &[Large]) -> Vec<Program> {
     let cases = [
-        ("large case cells, 4096: all of the scratch", "cells", 4_096),
+        ("large case cells at depth 48, 4096: all of the scratch", "cells at depth 48", 4_096),
         ("large case one short of objects and proxies, 0: all of the tape", "one short of objects and proxies", 0),
     ];
     cases.map(|(shown, name, value)| {

@@ -18,8 +18,8 @@ use system::{Faults, NO_FAULTS};
 /// What is lent where it is to suffice.
 const TAPE: usize = 5_360_062;
 const HIDDEN: usize = 1 << 20;
-const COUNTS: usize = 131_072;
-const MARKS: usize = 139_264;
+const COUNTS: usize = 196_608;
+const MARKS: usize = 204_800;
 const TEXT: usize = 65_536;
 const FINDER: usize = 645_277;
 

@@ -9,7 +9,7 @@ use crate::checksum::fnv1a;
 use crate::coverage::{Coverage, MostDropped, tags};
 use crate::edits::{ALTERATIONS, Edit, PIECES, SUBSTITUTIONS, instrument::INSTRUMENT, planted};
 use crate::events::{OutOfFuel, fuel_left, set_fuel};
-use crate::generator::{FAMILIES, Family, edges, family, faults, large::LARGE, make, make_edge, make_large};
+use crate::generator::{FAMILIES, Family, edges, family, faults, large, make, make_edge, make_large};
 use crate::harness::{Entry, Oracle, Tally};
 use crate::stored::{answer, read_cases, read_large};
 use crate::variants::{JUDGE, checked};
@@ -77,7 +77,8 @@ pub fn coverage(seed: u64, each: u64) {
         coverage.add(&tags(&answer(&input)));
         hand += 1;
     }
-    for large in LARGE {
+    let large_cases = large::all();
+    for large in &large_cases {
         let outcome = answer(&make_large(large));
         coverage.add(&tags(&outcome));
         most_of_large.see(outcome.dropped(), || format!("{} {}", large.name, large.seed));
@@ -90,7 +91,7 @@ pub fn coverage(seed: u64, each: u64) {
         }
     }
     coverage.add(&tags(&(JUDGE.program)(checked, &[0; 65], 64)));
-    println!("{run} fresh, {hand} by hand, {} large, {} calls on lent memory; {passed_over} passed over as hostile", LARGE.len(), tally.calls);
+    println!("{run} fresh, {hand} by hand, {} large, {} calls on lent memory; {passed_over} passed over as hostile", large_cases.len(), tally.calls);
     print!("{}{}{}", coverage.table(), most.line("fresh"), most_of_large.line("large"));
 }
 
@@ -141,7 +142,7 @@ pub fn replay(folder: &Path) -> (usize, usize) {
         passed += usize::from(good);
         failed += usize::from(!good);
     }
-    for (number, (case, sum)) in LARGE.iter().zip(read_large(folder)).enumerate() {
+    for (number, (case, sum)) in large::all().iter().zip(read_large(folder)).enumerate() {
         let good = fnv1a(&answer(&make_large(case)).text) == sum;
         if !good {
             println!("large case {number} differs");

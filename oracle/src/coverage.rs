@@ -18,9 +18,10 @@ pub const TAGS: &[&str] = &[
     "proxy-side", "proxy-grid", "proxy-dense-reference", "proxy-dense-batch",
     "label-cell", "label-none",
     "limit-cells", "limit-objects", "limit-texts", "limit-proxies", "proxy-dropped", "dropped-two-or-more", "dropped-63",
-    "node-grid-limit",
+    "dropped-95", "node-grid-limit",
     "culled-reference", "skipped-reference", "culled-batch", "skipped-batch",
-    "hidden-layers", "depth-0", "depth-32", "deep-32",
+    "hidden-layers", "depth-0", "depth-32", "depth-33", "depth-47", "depth-48", "deep-32", "deep-48",
+    "level-33-item", "level-33-proxy", "level-33-dense", "level-33-inner", "level-33-circle", "level-48-item", "level-48-circle",
     "absent-box", "zero-columns-or-rows", "reflection", "slanted", "not-finite-zoomed",
     "below-root", "listed-huge", "listed-subnormal", "below-root-huge", "below-root-subnormal", "turn-of-no-angle",
     "view-huge", "zoom-greatest", "zoom-subnormal",
@@ -94,9 +95,28 @@ fn run_tags(run: &Run, tags: &mut BTreeSet<&'static str>) {
         (skipped_batches > 0, "skipped-batch"),
         (run.record.dropped >= 2, "dropped-two-or-more"),
         (run.record.dropped == 63, "dropped-63"),
+        (run.record.dropped == 95, "dropped-95"),
         (run.record.ran_out > 0, "node-grid-limit"),
     ];
     tags.extend(met.iter().filter(|tag| tag.0).map(|tag| tag.1));
+}
+
+/// What stands at levels that only a depth above 32 reaches.
+fn level_tags(run: &Run, tags: &mut BTreeSet<&'static str>) {
+    for (event, level) in run.record.events.iter().zip(&run.record.levels) {
+        let is_item = matches!(event, Event::Batch { .. } | Event::Text { .. } | Event::Point { .. });
+        let cause = event.boxed().map(|(_, _, cause)| cause);
+        let shown = [
+            (level.own > 32 && is_item, "level-33-item"),
+            (level.own > 32 && cause.is_some(), "level-33-proxy"),
+            (level.own > 32 && cause == Some(Cause::DenseReference), "level-33-dense"),
+            (level.inner > 32, "level-33-inner"),
+            (level.own > 32 && cause == Some(Cause::Circle), "level-33-circle"),
+            (level.own == 48 && is_item, "level-48-item"),
+            (level.own == 48 && cause == Some(Cause::Circle), "level-48-circle"),
+        ];
+        tags.extend(shown.iter().filter(|tag| tag.0).map(|tag| tag.1));
+    }
 }
 
 /// Above this a float counts as huge.
@@ -194,13 +214,18 @@ pub fn tags(outcome: &Outcome) -> BTreeSet<&'static str> {
     if let (Some(sheet), Some(run), Some(query)) = (&outcome.sheet, &outcome.run, &outcome.query) {
         sheet_tags(sheet, &mut tags);
         run_tags(run, &mut tags);
+        level_tags(run, &mut tags);
         float_tags(sheet, query, run, &mut tags);
         length_tags(sheet, query, &mut tags);
         let asked = [
             (!query.hidden.is_empty(), "hidden-layers"),
             (query.depth == 0, "depth-0"),
             (query.depth == 32, "depth-32"),
+            (query.depth == 33, "depth-33"),
+            (query.depth == 47, "depth-47"),
+            (query.depth == 48, "depth-48"),
             (query.depth == 32 && tags.contains("proxy-depth-1"), "deep-32"),
+            (query.depth == 48 && tags.contains("proxy-depth-1"), "deep-48"),
             (query.zoom > 2f64.powi(64), "not-finite-zoomed"),
         ];
         tags.extend(asked.iter().filter(|tag| tag.0).map(|tag| tag.1));

@@ -13,7 +13,7 @@ use crate::answer::{Answer, Lent, Refusal};
 use crate::commands::bounded;
 use crate::finders::{KINDS, Kind, Maker, ROOMS, Room, any_places, list};
 use crate::generator::rng::Rng;
-use crate::generator::{FAMILIES, large::LARGE, make, make_large};
+use crate::generator::{FAMILIES, large, make, make_large};
 use crate::harness::{Entry, Subject, around, lend};
 use crate::judge::call::{named_places, plan};
 use crate::judge::finder;
@@ -307,9 +307,9 @@ pub fn run(subject: &mut dyn Subject, count: u64, seed: u64, folder: &Path) -> R
     for (place, entry) in entries().iter().enumerate() {
         runner.case("stored", &format!("{} {}", entry.family, entry.label), &entry.input, place as u64, Some(u64::MAX));
     }
-    for large in LARGE {
+    for large in large::all() {
         let label = format!("{} {}", large.name, large.seed);
-        runner.case("large", &label, &make_large(large), large.seed, None);
+        runner.case("large", &label, &make_large(&large), large.seed, None);
     }
     for place in 0..count {
         let family = &FAMILIES[(place % FAMILIES.len() as u64) as usize];

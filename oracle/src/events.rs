@@ -77,9 +77,33 @@ impl Event {
     }
 }
 
+/// Where an event stands: the root's own items and references are at level 1, what a member holds is one level deeper.
+#[derive(Clone, Copy)]
+pub struct Level {
+    pub own: usize,
+    /// The deepest level on the way to it that an inner reference leads to; 0 without one.
+    pub inner: usize,
+}
+
+impl Level {
+    fn of(path: &[Step]) -> Self {
+        let mut level = Self { own: 1, inner: 0 };
+        let is_member = |place: usize| matches!(path[place], Step::Member(..));
+        for place in (0..path.len()).filter(|&place| is_member(place)) {
+            level.own += 1;
+            if place > 0 && is_member(place - 1) {
+                level.inner = level.own;
+            }
+        }
+        level
+    }
+}
+
 #[derive(Default)]
 pub struct Record {
     pub events: Vec<Event>,
+    /// The level of the event at the same place.
+    pub levels: Vec<Level>,
     /// With a trace: the path of the event at the same place.
     pub paths: Vec<Vec<Step>>,
     /// How many grids of bare node points met a limit inside a member.
@@ -109,6 +133,7 @@ impl Record {
     }
 
     pub fn emit(&mut self, event: Event) {
+        self.levels.push(Level::of(&self.path));
         if self.trace {
             let mut path = self.path.clone();
             if let Event::Point { place, .. } = event {

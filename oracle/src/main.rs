@@ -77,8 +77,8 @@ fn main() {
         },
         "cases" => commands::write_cases(number(2, 0), number(1, 10), &mut stdout().lock()),
         "large" => {
-            let case = &generator::large::LARGE[number(1, 0) as usize];
-            print(&generator::make_large(case));
+            let case = generator::large::all()[number(1, 0) as usize];
+            print(&generator::make_large(&case));
         }
         "store" => stored::store(&folder),
         "verify" => {
@@ -125,7 +125,8 @@ fn mistake(number: u64) -> &'static edits::planted::Planted {
     edits::planted::all().nth(number as usize - 1).expect("a mistake of that number")
 }
 
-/// A run of so many sheets by brute force must meet every kind of node grid at a limit, and a plan that drops two proxies.
+/// A run of so many sheets by brute force must meet every kind of node grid at a limit and of deep level, and a plan that drops two
+/// proxies.
 const LONG_RUN: u64 = 3_000;
 
 /// Demand 3 by brute force.
@@ -138,6 +139,8 @@ fn cover(seed: u64, count: u64) {
     println!("sheets that show: {:?}", tally.shown);
     println!("sheets by where a node grid met a limit:");
     tally.node_grids.iter().for_each(|(what, sheets)| println!("{sheets:8} {what}"));
+    println!("sheets by what stands below level 32:");
+    tally.deep.iter().for_each(|(what, sheets)| println!("{sheets:8} {what}"));
     print!("{}", tally.most_dropped.line("small limits"));
     if let Some(first) = &tally.first {
         println!("first fault: {first}");
@@ -205,7 +208,7 @@ fn quick(folder: &Path) -> ! {
     add("demand 3 by brute force", ((tally.sheets - tally.faults) as usize, tally.faults as usize));
     let missing = tally.missing();
     missing.iter().for_each(|what| println!("not met by brute force: {what}"));
-    add("node grids at a limit and dropped proxies, by kind", (brute::kinds_wanted() - missing.len(), missing.len()));
+    add("node grids at a limit, deep levels and dropped proxies, by kind", (brute::kinds_wanted() - missing.len(), missing.len()));
     let mut subject = harness::Oracle { plan: variants::copies().instrumented, judge: variants::JUDGE };
     let tally = harness::run(&mut subject, 1_000_000, 3_000);
     add("memory after calls as stated", ((tally.calls - tally.broken) as usize, tally.broken as usize));

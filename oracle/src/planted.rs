@@ -8,7 +8,7 @@ use crate::brute;
 use crate::checksum::fnv1a;
 use crate::edits::planted::{Place, Planted, Seen, all};
 use crate::events::{set_fuel, switch_mistake};
-use crate::generator::{FAMILIES, large::LARGE, make, make_large};
+use crate::generator::{FAMILIES, large, make, make_large};
 use crate::harness;
 use crate::stored::{Case, answer, is_small, read_cases, read_large};
 use crate::variants::{JUDGE, copies};
@@ -64,7 +64,7 @@ struct Store {
 
 impl Store {
     fn open(folder: &Path) -> Self {
-        let large = LARGE.iter().map(make_large).zip(read_large(folder)).collect();
+        let large = large::all().iter().map(make_large).zip(read_large(folder)).collect();
         Self { small: read_cases(folder), large }
     }
 

@@ -3,7 +3,7 @@
 //!
 //! Ours works on the sheet's bytes. *questions* is questions 1 to 7 alone (`sheet_check`), *with finder* a whole call with
 //! the sheet's own finder, *without* a whole call without one, *opening* the call that fills the finder. *asked* is a call
-//! with the own finder at depth 33, which number 10 refuses: it asks questions 1 to 7, compares the finder and plans
+//! with the own finder at depth 49, which number 10 refuses: it asks questions 1 to 7, compares the finder and plans
 //! nothing. So *plan* is the time with a finder less that of *asked*, and *questions + plan* is what the questions and it take
 //! without the comparison of the finder. `-` stands for what was not measured. The Rust plans on a prepared library. *build* reads
 //! the bytes (the judge's reader) and prepares that library, *Rust plan* is `PreparedLibrary::plan` of the plain copy

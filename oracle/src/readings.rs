@@ -1,7 +1,9 @@
 //! Document 01's worked example and "Readings at the edges", as its own sentences have them and document 02's Paper 3 changes
 //! them; what else that paper says; a sheet's finder, worked out by hand from Paper 1; a node grid that runs out, from Paper 5;
-//! and proxies that did not fit, from Paper 8. The stored answers are the oracle's; these are the papers', and the oracle must
-//! meet them.
+//! proxies that did not fit, from Paper 8; and deep sheets, from Paper 13. The stored answers are the oracle's; these are the
+//! papers', and the oracle must meet them.
+
+mod deep;
 
 use crate::answer::{Answer, Lent};
 use crate::events::{Limits, Lists, Record, Run, Settings, patterns};
@@ -85,7 +87,10 @@ const READINGS: &[(&str, Shows)] = &[
     // A circle of cells ends in a proxy if the cell met again has a box, else in nothing.
     ("circle of two cells, box true, depth 5", Lines("proxy 0 ", 2)),
     ("circle of two cells, box false, depth 5", Lines("proxy", 0)),
-    ("one reference, depth 33", Exactly("refused 10 0\n")),
+    // Depth 33 to 48 is answered, only depth above 48 gets number 10 (document 02, paper 13).
+    ("one reference, depth 33", Totals("totals 3 2 0 0 0 0 0")),
+    ("one reference, depth 48", Totals("totals 3 2 0 0 0 0 0")),
+    ("one reference, depth 49", Exactly("refused 10 0\n")),
 ];
 
 fn holds(text: &str, shows: &Shows) -> bool {
@@ -158,8 +163,8 @@ fn finder() -> [(&'static str, bool); 10] {
         ("a plan with a longer finder", planned(&sheet, &longer, 3) == 0),
         ("a plan with a short finder", planned(&sheet, &SEVEN[..6], 3) == 13),
         ("a plan with two texts exchanged", planned(&sheet, &texts_exchanged, 3) == 13),
-        ("10 with the own finder", planned(&sheet, &SEVEN, 33) == 10),
-        ("13 before 10", planned(&sheet, &texts_exchanged, 33) == 13),
+        ("10 with the own finder", planned(&sheet, &SEVEN, 49) == 10),
+        ("13 before 10", planned(&sheet, &texts_exchanged, 49) == 13),
     ]
 }
 
@@ -209,9 +214,9 @@ fn calls_of_large(name: &str, seed: u64, list: usize) -> Calls {
 
 /// Where the list holds one proxy, a descent of cells that all go on drops a box a cell and, but for the last, one a reference.
 fn drops_two_a_level() -> bool {
-    let mut sheet = descent(0, 63);
+    let mut sheet = descent(48, 0, 95);
     grow_true_boxes(&mut sheet);
-    (1..=32).all(|depth| calls(&sheet, &wide(depth), 1) == (2 * u64::from(depth), 1, 2 * u64::from(depth) - 1))
+    (1..=48).all(|depth| calls(&sheet, &wide(depth), 1) == (2 * u64::from(depth), 1, 2 * u64::from(depth) - 1))
 }
 
 /// "Their record has 62 bytes", and the seventh count stands last.
@@ -222,7 +227,7 @@ fn totals_record() -> bool {
     tape::write(&run) == [&[62, 0, 0, 0, 15, 0][..], &counts[..]].concat()
 }
 
-fn dropped() -> [(&'static str, bool); 8] {
+fn dropped() -> [(&'static str, bool); 10] {
     let list = Limits::DOCUMENT.proxies;
     let called_for = |count| calls_of_large("proxies called for", count, list);
     let wanted = |list| calls_of_large("parts that want a box", 100_065, list);
@@ -232,6 +237,8 @@ fn dropped() -> [(&'static str, bool); 8] {
         ("100,000 proxies called for", called_for(100_000) == (100_000, 100_000, 0)),
         ("100,001 proxies called for", called_for(100_001) == (100_001, 100_000, 1)),
         ("100,063 proxies called for", called_for(100_063) == (100_063, 100_000, 63)),
+        ("100,065 proxies called for, at depth 33", called_for(100_065) == (100_065, 100_000, 65)),
+        ("100,095 proxies called for, at depth 48", called_for(100_095) == (100_095, 100_000, 95)),
         ("two boxes a level dropped, and one at the last", drops_two_a_level()),
         // What is no longer visited is not called for.
         ("100,065 parts that want a box", wanted(list) == (100_001, 100_000, 1)),
@@ -246,6 +253,7 @@ pub fn run() -> (usize, usize) {
     results.extend(finder());
     results.extend(node_grid());
     results.extend(dropped());
+    results.extend(deep::readings());
     for (label, shows) in READINGS {
         let edge = edges.iter().find(|edge| edge.label == *label).expect("a case of that label");
         let text = String::from_utf8(answer(&make_edge(edge)).text).unwrap();

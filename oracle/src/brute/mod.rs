@@ -1,8 +1,9 @@
 //! Demand 3 by brute force: small square sheets with true boxes, every path up to a bound, against the plan's events; and the
-//! sentences of document 02's Papers 5 and 8 on them.
+//! sentences of document 02's Papers 5 and 8 on them. Some are nested deeper than 32 levels, for its Paper 13.
 //! Small limits are given to the instrumented planner, so that small sheets meet all four.
 
 mod check;
+mod deep;
 pub mod exact;
 mod node_grids;
 mod paths;
@@ -12,6 +13,7 @@ use std::collections::{BTreeMap, BTreeSet};
 use crate::answer::PlanFn;
 use crate::coverage::{MostDropped, cause_tag};
 use crate::events::{Event, Limits, Run, Settings};
+use crate::generator::deep::deep_enough;
 use crate::generator::node_grids::at_a_limit;
 use crate::generator::query::near;
 use crate::generator::rng::Rng;
@@ -35,23 +37,26 @@ pub struct Tally {
     /// Sheets by what their plans show, and by where a node grid met a limit.
     pub shown: BTreeMap<&'static str, u64>,
     pub node_grids: BTreeMap<String, u64>,
+    /// Sheets by what their plans show below level 32.
+    pub deep: BTreeMap<&'static str, u64>,
     pub most_dropped: MostDropped,
     pub first: Option<String>,
 }
 
-/// What a long run must show besides node grids at a limit.
+/// What a long run must show besides node grids at a limit and deep levels.
 const TWO_DROPPED: &str = "a plan that drops two proxies";
 
 /// How many kinds of plans a run of some thousand sheets must show.
 pub fn kinds_wanted() -> usize {
-    node_grids::wanted().len() + 1
+    node_grids::wanted().len() + deep::WANTED.len() + 1
 }
 
 impl Tally {
     /// The kinds that the run did not show: none of a long run.
     pub fn missing(&self) -> Vec<String> {
         let kinds = node_grids::wanted().into_iter().filter(|kind| !self.node_grids.contains_key(kind));
-        kinds.chain((self.most_dropped.proxies < 2).then(|| TWO_DROPPED.to_string())).collect()
+        let deep = deep::WANTED.into_iter().filter(|kind| !self.deep.contains_key(kind)).map(str::to_string);
+        kinds.chain(deep).chain((self.most_dropped.proxies < 2).then(|| TWO_DROPPED.to_string())).collect()
     }
 }
 
@@ -79,10 +84,23 @@ fn limits(rng: &mut Rng) -> Limits {
     Limits { cells: most(1, 5), objects: most(1, 8), texts: most(1, 5), proxies: most(1, 4) }
 }
 
-/// One sheet in four has node grids at a limit, one in four fields of unused sites, the others anything.
+/// Limits that a deep sheet meets at a level below 32, or none of them.
+fn deep_limits(rng: &mut Rng) -> Limits {
+    if rng.chance(1, 2) {
+        return Limits::DOCUMENT;
+    }
+    let mut most = |low, high| if rng.chance(1, 3) { rng.size(low, high) } else { 100_000 };
+    Limits { cells: most(30, 50), objects: most(15, 60), texts: most(10, 30), proxies: most(1, 4) }
+}
+
+/// One sheet in four has node grids at a limit, one in four fields of unused sites, one in sixteen is deep, the others anything.
 fn case(rng: &mut Rng, seed: u64) -> (Query, Sheet, Limits) {
     if seed % 4 == 1 {
         return at_a_limit(rng);
+    }
+    if seed % 16 == 2 {
+        let (query, sheet) = deep_enough(rng);
+        return (widened(rng, query), sheet, deep_limits(rng));
     }
     let (query, sheet) = if seed % 4 == 3 { unused_sites(rng) } else { any(rng) };
     let query = widened(rng, query);
@@ -132,14 +150,10 @@ fn one(plan: PlanFn, seed: u64, tally: &mut Tally) {
         return;
     }
     // Two members beyond the depth: what lies deeper lies in the same boxes.
-    let Some(paths) = Paths::of(&sheet, query.root, query.depth.min(8) as usize + 2, MOST_PATHS) else {
+    let Some(paths) = Paths::of(&sheet, query.root, query.depth as usize + 2, MOST_PATHS) else {
         tally.passed_over += 1;
         return;
     };
-    if paths.cut && query.depth > 8 {
-        tally.passed_over += 1;
-        return;
-    }
     let run = plan(&sheet, &query, Settings { limits, trace: true });
     tally.sheets += 1;
     tally.paths += paths.items.len() as u64;
@@ -148,6 +162,9 @@ fn one(plan: PlanFn, seed: u64, tally: &mut Tally) {
     tally.most_dropped.see(run.record.dropped, || format!("seed {seed}"));
     for shown in shown(&run) {
         *tally.shown.entry(shown).or_default() += 1;
+    }
+    for shown in deep::shown(&run) {
+        *tally.deep.entry(shown).or_default() += 1;
     }
     for shown in node_grids::shown(&run, limits, &paths, |item| check::is_to_be_seen(&sheet, &query, item)) {
         *tally.node_grids.entry(shown).or_default() += 1;

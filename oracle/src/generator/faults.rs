@@ -67,6 +67,7 @@ pub fn all() -> Faults {
     orders(&mut faults);
     queries(&mut faults);
     no_queries(&mut faults);
+    deeper_queries(&mut faults);
     faults
 }
 
@@ -224,15 +225,18 @@ fn orders(faults: &mut Faults) {
     add(faults, "absent box that is no number", &[with(boxless(), 90, &nan)]);
 }
 
-fn queries(faults: &mut Faults) {
+/// A query on a sound sheet, and on one with a bad number.
+fn ask(faults: &mut Faults, label: String, query: Query) {
     let sheet = [text(0), cell([&[], &[0], &[], &[]])].concat();
     let broken = [text(0), source(1, 99)].concat();
-    let mut ask = |label: String, query: Query| {
-        for (name, sheet) in [("", &sheet), (", sheet with a bad number", &broken)] {
-            let input = [query_bytes(&query), sheet.clone()].concat();
-            faults.push(Fault { label: format!("{label}{name}"), input });
-        }
-    };
+    for (name, sheet) in [("", sheet), (", sheet with a bad number", broken)] {
+        let input = [query_bytes(&query), sheet].concat();
+        faults.push(Fault { label: format!("{label}{name}"), input });
+    }
+}
+
+fn queries(faults: &mut Faults) {
+    let mut ask = |label: String, query: Query| ask(faults, label, query);
     let views = [
         [f64::NAN, 0.0, 1.0, 1.0], [0.0, f64::NAN, 1.0, 1.0], [0.0, 0.0, f64::NAN, 1.0], [0.0, 0.0, 1.0, f64::NAN],
         [f64::NEG_INFINITY, 0.0, 1.0, 1.0], [0.0, 0.0, f64::INFINITY, 1.0], [2.0, 0.0, 1.0, 1.0], [0.0, 2.0, 1.0, 1.0],
@@ -251,6 +255,16 @@ fn queries(faults: &mut Faults) {
     ask("view and zoom".into(), Query { view: bad_view, zoom: 0.0, ..query() });
     ask("view and depth".into(), Query { view: bad_view, depth: 33, ..query() });
     ask("zoom and depth".into(), Query { zoom: 0.0, depth: 33, ..query() });
+}
+
+/// Depths around 48, and the order of questions 8 to 10 where the depth is too great.
+fn deeper_queries(faults: &mut Faults) {
+    for depth in [34, 47, 50] {
+        ask(faults, format!("depth {depth}"), Query { depth, ..query() });
+    }
+    let bad_view = [2.0, 0.0, 1.0, 1.0];
+    ask(faults, "view and depth 49".into(), Query { view: bad_view, depth: 49, ..query() });
+    ask(faults, "zoom and depth 49".into(), Query { zoom: 0.0, depth: 49, ..query() });
 }
 
 fn no_queries(faults: &mut Faults) {

@@ -3,12 +3,14 @@
 
 use super::boxes::grow_true_boxes;
 use super::edges::at_limits::{after_both, after_cells, after_objects, after_proxies, after_texts, grids, room_for_both_boxes};
+use super::edges::deep;
 use super::encode::{QUARTERS, grid, input, query_bytes, single};
 use super::full_list;
 use super::long;
 use super::rng::Rng;
 use crate::sheet::{Query, Sheet, Source};
 
+#[derive(Clone, Copy)]
 pub struct Large {
     pub name: &'static str,
     pub seed: u64,
@@ -124,7 +126,22 @@ pub const LARGE: &[Large] = &[
     large("any descent to a full list", 6, full_list::any_descent),
     large("any descent to a full list", 7, full_list::any_descent),
     large("any descent to a full list", 8, full_list::any_descent),
+    large("proxies called for", 100_065, full_list::called_for),
+    large("proxies called for", 100_095, full_list::called_for),
+    large("any descent of 48 levels to a full list", 1, full_list::any_descent_at_48),
+    large("any descent of 48 levels to a full list", 2, full_list::any_descent_at_48),
+    large("any descent of 48 levels to a full list", 3, full_list::any_descent_at_48),
+    large("any descent of 48 levels to a full list", 4, full_list::any_descent_at_48),
+    large("cells at depth 48", 4_096, many_cells_at_48),
+    large("chain of cells at depth 48", 4_096, long::chain_of_cells_at_48),
+    large("end of a chain of cells at depth 48", 4_096, long::end_of_a_chain_of_cells_at_48),
+    large("chain of references at depth 48", 4_096, long::chain_of_references_at_48),
 ];
+
+/// These and the deep sheets, which are large for their length alone.
+pub fn all() -> Vec<Large> {
+    [LARGE, &deep::large_cases()].concat()
+}
 
 const WIDE: [f64; 4] = [-1e9, -1e9, 1e9, 1e9];
 
@@ -330,6 +347,15 @@ fn small_references(rng: &mut Rng, count: u64) -> Vec<u8> {
 }
 
 fn many_cells(rng: &mut Rng, count: u64) -> Vec<u8> {
+    cells_at(rng, count, 32)
+}
+
+/// So many cells at the greatest depth take all of the scratch that a plan can take.
+fn many_cells_at_48(rng: &mut Rng, count: u64) -> Vec<u8> {
+    cells_at(rng, count, 48)
+}
+
+fn cells_at(rng: &mut Rng, count: u64, depth: u32) -> Vec<u8> {
     let mut sheet = Sheet::default();
     let text = sheet.text(1, 1, [5.0, 5.0]);
     let last = sheet.reference(single(Source::Cell(count as u32 - 1), None));
@@ -338,7 +364,7 @@ fn many_cells(rng: &mut Rng, count: u64) -> Vec<u8> {
         sheet.cell(1, None);
     }
     sheet.cells.last_mut().unwrap().texts.push(text);
-    finish(sheet, Query { zoom: 30.0, ..wide(32) }, rng)
+    finish(sheet, Query { zoom: 30.0, ..wide(depth) }, rng)
 }
 
 fn many_cells_and_a_bad_number(rng: &mut Rng, count: u64) -> Vec<u8> {

@@ -1,7 +1,8 @@
 //! Families of long records, lists and chains: nodes of 50 points, texts of 512 bytes, lists of 65,535 numbers, 65,000
 //! hidden layers, 4,096 cells, chains of cells and of inner references; and the large cases of the same.
 
-use super::boxes::{Sides, grow_true_boxes, join, reference_box, true_boxes};
+use super::boxes::{grow_true_boxes, join, reference_box, true_boxes};
+use super::descent::{Descent, from_the_top, whole_root};
 use super::encode::{QUARTERS, input, single};
 use super::families::{Pair, square};
 use super::query::near;
@@ -107,67 +108,6 @@ pub fn many_hidden(rng: &mut Rng) -> Pair {
     (query, sheet)
 }
 
-/// A sheet of a descent, one step at a time from the bottom up, with true boxes.
-struct Descent {
-    sheet: Sheet,
-    /// The last step: the cell at the bottom, a reference or a cell, and its box.
-    last: Source,
-    sides: Sides,
-}
-
-impl Descent {
-    fn new() -> Self {
-        let mut sheet = Sheet::default();
-        let sides = [0.0, 0.0, 40.0, 40.0];
-        let text = sheet.text(1, 0, [7.0, 9.0]);
-        let batch = sheet.batch(2, 0, 1, sides);
-        let bottom = sheet.cell(1, Some(sides));
-        (bottom.texts, bottom.batches) = (vec![text], vec![batch]);
-        Self { sheet, last: Source::Cell(0), sides }
-    }
-
-    /// A turned reference to the last step.
-    fn reference(&mut self, rng: &mut Rng) -> u32 {
-        let mut step = single(self.last, Some(self.sides));
-        (step.cos, step.sin) = rng.pick(&QUARTERS);
-        step.reflection = rng.chance(1, 4);
-        step.origin = [rng.range(-3, 3) as f64, rng.range(-3, 3) as f64];
-        self.sides = reference_box(&step, self.sides).expect("a member");
-        let number = self.sheet.reference(step);
-        self.last = Source::Reference(number);
-        number
-    }
-
-    /// A cell that lists a reference to the last step, and sometimes the text.
-    fn cell(&mut self, rng: &mut Rng) {
-        let number = self.reference(rng);
-        let with_text = rng.chance(1, 3);
-        if with_text {
-            self.sides = join(Some(self.sides), Some([7.0, 9.0, 7.0, 9.0])).expect("two boxes");
-        }
-        let cell = self.sheet.cell(rng.below(3), Some(self.sides));
-        (cell.references, cell.texts) = (vec![number], vec![0; usize::from(with_text)]);
-        self.last = Source::Cell(self.sheet.cells.len() as u32 - 1);
-    }
-}
-
-/// Cells are numbered from the bottom up; this numbers them from the top down.
-fn from_the_top(sheet: &mut Sheet) {
-    let last = sheet.cells.len() as u32 - 1;
-    sheet.cells.reverse();
-    for reference in &mut sheet.references {
-        if let Source::Cell(number) = &mut reference.source {
-            *number = last - *number;
-        }
-    }
-}
-
-/// The view holds all of the root, which is the cell at this place.
-fn whole_root(sheet: &Sheet, root: usize, depth: u32, zoom: f64) -> Query {
-    let view = sheet.cells[root].bbox.expect("a box");
-    Query { root: root as u32, depth, view, zoom, hidden: Vec::new() }
-}
-
 /// Chains of up to 4,096 cells, of as many inner references, and of both.
 pub fn many_cells(rng: &mut Rng) -> Pair {
     let steps = count(rng, MOST_CELLS - 1);
@@ -182,52 +122,79 @@ pub fn many_cells(rng: &mut Rng) -> Pair {
     }
     let mut sheet = descent.sheet;
     let top = sheet.cells.len() - 1;
+    // A sheet so long is no small case: the stored ones stay as they were.
+    let long = sheet.references.len() > 33;
     let above = match rng.below(4) {
         0 => top,
         1 => rng.below(top as u64 + 1) as usize,
-        _ => rng.size(1, 33).min(top),
+        _ => rng.size(1, if long { 60 } else { 33 }).min(top),
     };
     let turned = rng.chance(1, 2);
     if turned {
         from_the_top(&mut sheet);
     }
     let root = if turned { top - above } else { above };
-    let (depth, zoom) = (rng.pick(&[2, 5, 31, 32]), rng.pick(&[1.0, 2.0, 24.0 / 40.0, 10.0]));
+    let depth = if long { rng.pick(&[2, 31, 32, 33, 47, 48]) } else { rng.pick(&[2, 5, 31, 32]) };
+    let zoom = rng.pick(&[1.0, 2.0, 24.0 / 40.0, 10.0]);
     (whole_root(&sheet, root, depth, zoom), sheet)
+}
+
+/// So many cells, each in the next, numbered from the top.
+fn cells_in_one_another(rng: &mut Rng, cells: u64) -> Sheet {
+    let mut descent = Descent::new();
+    (1..cells).for_each(|_| descent.cell(rng));
+    from_the_top(&mut descent.sheet);
+    descent.sheet
 }
 
 /// So many cells, each in the next; the root is the first, which the others lie below.
 pub fn chain_of_cells(rng: &mut Rng, cells: u64) -> Vec<u8> {
-    let mut descent = Descent::new();
-    (1..cells).for_each(|_| descent.cell(rng));
-    from_the_top(&mut descent.sheet);
-    input(&whole_root(&descent.sheet, 0, 32, 1.0), &descent.sheet, rng)
+    let sheet = cells_in_one_another(rng, cells);
+    input(&whole_root(&sheet, 0, 32, 1.0), &sheet, rng)
 }
 
-/// The same, planned from the cell 31 above the last one, which is just reached.
+/// The same at the greatest depth.
+pub fn chain_of_cells_at_48(rng: &mut Rng, cells: u64) -> Vec<u8> {
+    let sheet = cells_in_one_another(rng, cells);
+    input(&whole_root(&sheet, 0, 48, 1.0), &sheet, rng)
+}
+
+/// Planned from the cell 31 above the last one, which is just reached.
 pub fn end_of_a_chain_of_cells(rng: &mut Rng, cells: u64) -> Vec<u8> {
-    let mut descent = Descent::new();
-    (1..cells).for_each(|_| descent.cell(rng));
-    from_the_top(&mut descent.sheet);
-    input(&whole_root(&descent.sheet, cells as usize - 32, 32, 1.0), &descent.sheet, rng)
+    let sheet = cells_in_one_another(rng, cells);
+    input(&whole_root(&sheet, cells as usize - 32, 32, 1.0), &sheet, rng)
+}
+
+/// Planned from the cell 47 above the last one, which is just reached at the greatest depth.
+pub fn end_of_a_chain_of_cells_at_48(rng: &mut Rng, cells: u64) -> Vec<u8> {
+    let sheet = cells_in_one_another(rng, cells);
+    input(&whole_root(&sheet, cells as usize - 48, 48, 1.0), &sheet, rng)
+}
+
+pub fn chain_of_references(rng: &mut Rng, references: u64) -> Vec<u8> {
+    references_in_one_another(rng, references, 32)
+}
+
+pub fn chain_of_references_at_48(rng: &mut Rng, references: u64) -> Vec<u8> {
+    references_in_one_another(rng, references, 48)
 }
 
 /// So many references, each in the next. The root lists the last, the one from which a visit just reaches the end of
 /// the chain, and the one from which it does not.
-pub fn chain_of_references(rng: &mut Rng, references: u64) -> Vec<u8> {
+fn references_in_one_another(rng: &mut Rng, references: u64, depth: u32) -> Vec<u8> {
     let mut descent = Descent::new();
     for _ in 1..references {
         descent.reference(rng);
     }
     descent.cell(rng);
     let mut sheet = descent.sheet;
-    sheet.cells[1].references.extend([30, 31]);
-    for number in [30, 31] {
-        let reference = &sheet.references[number];
+    for number in [depth - 2, depth - 1] {
+        sheet.cells[1].references.push(number);
+        let reference = &sheet.references[number as usize];
         let whole = reference.bbox.and_then(|source| reference_box(reference, source));
         sheet.cells[1].bbox = join(sheet.cells[1].bbox, whole);
     }
-    input(&whole_root(&sheet, 1, 32, 1.0), &sheet, rng)
+    input(&whole_root(&sheet, 1, depth, 1.0), &sheet, rng)
 }
 
 /// Four lists of so many numbers, all of which the visit goes through: all but the last lie out of view.

@@ -1,6 +1,8 @@
 //! Seeded inputs for `plan`: families of random cases, cases made by hand, and large ones.
 
 pub mod boxes;
+pub mod deep;
+pub mod descent;
 pub mod edges;
 pub mod encode;
 pub mod families;
@@ -71,6 +73,8 @@ pub const FAMILIES: &[Family] = &[
     pair("many-hidden", long::many_hidden),
     pair("many-cells", long::many_cells),
     pair("unused-sites", unused::unused_sites),
+    pair("deep-nests", deep::deep_nests),
+    pair("deep-queries", deep::deep_queries),
 ];
 
 /// The input of one family at one seed.

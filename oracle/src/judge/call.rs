@@ -1,13 +1,13 @@
 // The questions in their order, and one call of the library that plans: the answer, and every lent place after it.
-// States document 01's "Before a plan" and document 02's Paper 1; the sizes that were lent are part of the question.
+// States document 01's "Before a plan" and document 02's Papers 1 and 13; the sizes that were lent are part of the question.
 
 use super::{finder, reader, tape};
 use crate::answer::{Answer, Lent, PlanFn, Refusal};
 use crate::events::{Run, Settings};
 use crate::sheet::{Query, Sheet};
 
-/// Depth above this gets number 10.
-pub const MAX_DEPTH: u32 = 32;
+/// "Only depth above 48 gets number 10": document 02's Paper 13.
+pub const MAX_DEPTH: u32 = 48;
 
 /// Questions 8 to 10.
 pub fn check_query(query: &Query) -> Result<(), Refusal> {

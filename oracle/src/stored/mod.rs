@@ -10,13 +10,15 @@ use std::path::Path;
 use crate::answer::Outcome;
 use crate::checksum::fnv1a;
 use crate::coverage::{Coverage, MostDropped, TAGS, tags};
-use crate::generator::{FAMILIES, edges, family, faults, large::LARGE, make, make_edge, make_large};
+use crate::generator::{FAMILIES, edges, family, faults, large, make, make_edge, make_large};
 use crate::variants::{JUDGE, checked};
 
 /// The small cases, seen from the folder of the store.
 const CASES: &str = "../../crates/plan_vectors/stdin";
-/// Every stored input is shorter than this.
-const MOST_INPUT: usize = 4_096;
+/// Every stored input is shorter than this: a deep sheet takes so much.
+const MOST_INPUT: usize = 16_384;
+/// Every random one is shorter than this.
+const MOST_RANDOM_INPUT: usize = 4_096;
 /// Every stored text is at most this, so that a program without a heap can hold it.
 const MOST_TEXT: usize = 65_536;
 /// So many random cases of each family.
@@ -66,7 +68,7 @@ pub fn entries() -> Vec<Entry> {
 }
 
 pub fn is_small(input: &[u8]) -> bool {
-    input.len() < MOST_INPUT && answer(input).text.len() <= MOST_TEXT
+    input.len() < MOST_RANDOM_INPUT && answer(input).text.len() <= MOST_TEXT
 }
 
 /// The three files of the store, as bytes: the cases, their names, the large cases; and lines on what their plans drop at most.
@@ -87,7 +89,7 @@ pub fn make_files() -> ([(&'static str, Vec<u8>); 3], String) {
         names += &format!("{number}\t{}\t{}\t{}\n", entry.family, entry.label, tags.join(" "));
     }
     let mut large = String::new();
-    for (number, case) in LARGE.iter().enumerate() {
+    for (number, case) in large::all().iter().enumerate() {
         let input = make_large(case);
         let outcome = answer(&input);
         let tags: Vec<&str> = tags(&outcome).into_iter().collect();

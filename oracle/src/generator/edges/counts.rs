@@ -172,41 +172,62 @@ fn shares(edges: &mut Edges) {
 
 /// "Cells 0 and 1 refer to each other once": what is remembered decides whether the second reference collapses.
 pub fn memory_of_counts(edges: &mut Edges) {
-    let side = Some([0.0, 0.0, 64.0, 32.0]);
     for (first, second) in [(5, 7), (60, 70), (70, 60), (100, 120)] {
         for order in [[0, 1], [1, 0]] {
             for depth in 3..=6 {
-                let mut sheet = Sheet::default();
-                let to_one = sheet.reference(single(Source::Cell(1), side));
-                let to_zero = sheet.reference(single(Source::Cell(0), side));
-                let inner = sheet.reference(single(Source::Cell(1), side));
-                let outer = sheet.reference(single(Source::Reference(inner), side));
-                let direct = sheet.reference(single(Source::Cell(0), side));
-                sheet.cell(first, side).references.push(to_one);
-                sheet.cell(second, side).references.push(to_zero);
-                let listed = [direct, outer];
-                sheet.cell(0, None).references = order.map(|place: usize| listed[place]).to_vec();
-                let label = format!("circle of {first} and {second} units, order {order:?}, depth {depth}");
-                add(edges, label, Query { root: 2, ..wide(depth) }, sheet);
+                counts_in_a_circle(edges, (first, second), order, depth);
             }
         }
     }
-    // A remembered count is taken even where its cell is open.
     for depth in 4..=7 {
         for units in [40, 63, 70, 126] {
-            let mut sheet = Sheet::default();
-            let to_one = sheet.reference(single(Source::Cell(1), side));
-            let to_zero = sheet.reference(single(Source::Cell(0), side));
-            let direct = sheet.reference(single(Source::Cell(0), side));
-            let second = sheet.reference(single(Source::Reference(direct), side));
-            let third = sheet.reference(single(Source::Reference(second), side));
-            sheet.cell(units, side).references.push(to_one);
-            sheet.cell(1, side).references.push(to_zero);
-            sheet.cell(0, None).references = vec![third, direct, second];
-            let label = format!("remembered below an open cell of {units} units, depth {depth}");
-            add(edges, label, Query { root: 2, ..wide(depth) }, sheet);
+            below_an_open_cell(edges, units, depth);
         }
     }
+}
+
+/// The same at depths above 32: what is remembered has places for each.
+pub fn deep_memory(edges: &mut Edges) {
+    for depth in [33, 34, 48] {
+        for order in [[0, 1], [1, 0]] {
+            counts_in_a_circle(edges, (60, 70), order, depth);
+        }
+        for units in [63, 70] {
+            below_an_open_cell(edges, units, depth);
+        }
+    }
+}
+
+fn counts_in_a_circle(edges: &mut Edges, (first, second): (u64, u64), order: [usize; 2], depth: u32) {
+    let side = Some([0.0, 0.0, 64.0, 32.0]);
+    let mut sheet = Sheet::default();
+    let to_one = sheet.reference(single(Source::Cell(1), side));
+    let to_zero = sheet.reference(single(Source::Cell(0), side));
+    let inner = sheet.reference(single(Source::Cell(1), side));
+    let outer = sheet.reference(single(Source::Reference(inner), side));
+    let direct = sheet.reference(single(Source::Cell(0), side));
+    sheet.cell(first, side).references.push(to_one);
+    sheet.cell(second, side).references.push(to_zero);
+    let listed = [direct, outer];
+    sheet.cell(0, None).references = order.map(|place: usize| listed[place]).to_vec();
+    let label = format!("circle of {first} and {second} units, order {order:?}, depth {depth}");
+    add(edges, label, Query { root: 2, ..wide(depth) }, sheet);
+}
+
+/// A remembered count is taken even where its cell is open.
+fn below_an_open_cell(edges: &mut Edges, units: u64, depth: u32) {
+    let side = Some([0.0, 0.0, 64.0, 32.0]);
+    let mut sheet = Sheet::default();
+    let to_one = sheet.reference(single(Source::Cell(1), side));
+    let to_zero = sheet.reference(single(Source::Cell(0), side));
+    let direct = sheet.reference(single(Source::Cell(0), side));
+    let second = sheet.reference(single(Source::Reference(direct), side));
+    let third = sheet.reference(single(Source::Reference(second), side));
+    sheet.cell(units, side).references.push(to_one);
+    sheet.cell(1, side).references.push(to_zero);
+    sheet.cell(0, None).references = vec![third, direct, second];
+    let label = format!("remembered below an open cell of {units} units, depth {depth}");
+    add(edges, label, Query { root: 2, ..wide(depth) }, sheet);
 }
 
 /// 20,000 cells in detail without one record: grids of a cell that holds only its box.

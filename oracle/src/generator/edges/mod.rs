@@ -1,8 +1,9 @@
-//! Cases made by hand: document 01's worked example, its "Readings at the edges", document 02's Paper 3, and places that
-//! chance seldom meets.
+//! Cases made by hand: document 01's worked example, its "Readings at the edges", document 02's Papers 3 and 13, and places
+//! that chance seldom meets.
 
 pub mod at_limits;
 mod counts;
+pub mod deep;
 mod limits;
 mod numbers;
 mod sizes;
@@ -40,7 +41,7 @@ pub fn all() -> Edges {
     numbers::numbers(&mut edges);
     counts::units(&mut edges);
     counts::memory_of_counts(&mut edges);
-    visits::depths(&mut edges);
+    visits::depths(&mut edges, &[0, 1, 2, 3, 31, 32, 33]);
     visits::circles(&mut edges);
     visits::labels(&mut edges);
     visits::views(&mut edges);
@@ -49,6 +50,10 @@ pub fn all() -> Edges {
     visits::layers(&mut edges);
     counts::cell_limit(&mut edges);
     limits::limits(&mut edges);
+    visits::depths(&mut edges, &[34, 47, 48, 49]);
+    visits::deep_circles(&mut edges);
+    counts::deep_memory(&mut edges);
+    deep::small(&mut edges);
     edges
 }
 

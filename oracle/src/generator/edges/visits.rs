@@ -5,8 +5,8 @@ use crate::generator::boxes::grow_true_boxes;
 use crate::generator::encode::{grid, single};
 use crate::sheet::{Query, Sheet, Source};
 
-pub fn depths(edges: &mut Edges) {
-    for depth in [0, 1, 2, 3, 31, 32, 33] {
+pub fn depths(edges: &mut Edges, depths: &[u32]) {
+    for &depth in depths {
         let mut sheet = block(1, [100.0, 100.0], (2, 1));
         let text = sheet.text(0, 0, [5.0, 5.0]);
         sheet.cells[1].texts.push(text);
@@ -19,19 +19,24 @@ pub fn depths(edges: &mut Edges) {
     }
 }
 
+/// Two cells that refer to each other, the second one twice, each with a text.
+fn circle(edges: &mut Edges, boxed: bool, depth: u32) {
+    let side = Some([0.0, 0.0, 100.0, 100.0]);
+    let mut sheet = Sheet::default();
+    let text = sheet.text(0, 0, [7.0, 7.0]);
+    let to_one = sheet.reference(single(Source::Cell(1), side));
+    let to_zero = sheet.reference(single(Source::Cell(0), side));
+    let zero = sheet.cell(1, side.filter(|_| boxed));
+    (zero.texts, zero.references) = (vec![text], vec![to_one]);
+    let one = sheet.cell(1, side);
+    (one.texts, one.references) = (vec![text], vec![to_zero, to_zero]);
+    add(edges, format!("circle of two cells, box {boxed}, depth {depth}"), wide(depth), sheet);
+}
+
 pub fn circles(edges: &mut Edges) {
     for boxed in [true, false] {
         for depth in [2, 3, 5, 8] {
-            let side = Some([0.0, 0.0, 100.0, 100.0]);
-            let mut sheet = Sheet::default();
-            let text = sheet.text(0, 0, [7.0, 7.0]);
-            let to_one = sheet.reference(single(Source::Cell(1), side));
-            let to_zero = sheet.reference(single(Source::Cell(0), side));
-            let zero = sheet.cell(1, side.filter(|_| boxed));
-            (zero.texts, zero.references) = (vec![text], vec![to_one]);
-            let one = sheet.cell(1, side);
-            (one.texts, one.references) = (vec![text], vec![to_zero, to_zero]);
-            add(edges, format!("circle of two cells, box {boxed}, depth {depth}"), wide(depth), sheet);
+            circle(edges, boxed, depth);
         }
     }
     // The same cell twice side by side is no circle.
@@ -40,6 +45,12 @@ pub fn circles(edges: &mut Edges) {
     sheet.cells[1].texts.push(text);
     sheet.cells[0].references = vec![0, 0];
     add(edges, "one cell twice side by side", wide(3), sheet);
+}
+
+pub fn deep_circles(edges: &mut Edges) {
+    for depth in [33, 48] {
+        circle(edges, true, depth);
+    }
 }
 
 /// Labels of proxies: a cell's number, a missing cell's number, none for other sources.
