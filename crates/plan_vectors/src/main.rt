@@ -602,6 +602,6 @@ fn lend(cases: &mut [u8]) {
 }
 
 fn main() {
-    let mut cases = [0u8; 1572864];
+    let mut cases = [0u8; 2097152];
     lend(&mut cases);
 }

@@ -7,7 +7,7 @@ use Rattle.plan_vectors.proofs.main.Statement.{statement}
 use Rattle.plan_vectors.proofs.main.Tie as tie
 
 cases : tie.Need-slice-aggregate-lend
-cases c = sym (length-replicate {0} {A = ℕ} 1572864 0)
+cases c = sym (length-replicate {0} {A = ℕ} 2097152 0)
 
 lend-requires : tie.Need-lend-requires
 lend-requires c κs = tt
