@@ -21,6 +21,8 @@ const MOST_INPUT: usize = 16_384;
 const MOST_RANDOM_INPUT: usize = 4_096;
 /// Every stored text is at most this, so that a program without a heap can hold it.
 const MOST_TEXT: usize = 65_536;
+/// All of them together take at most this: the buffer of `plan_vectors`, which has 4,097 cells of 56 bytes and a query behind them.
+const MOST_STORED: usize = 2_097_152 - 229_486;
 /// So many random cases of each family.
 const EACH: usize = 12;
 
@@ -88,6 +90,7 @@ pub fn make_files() -> ([(&'static str, Vec<u8>); 3], String) {
         let tags: Vec<&str> = tags.into_iter().collect();
         names += &format!("{number}\t{}\t{}\t{}\n", entry.family, entry.label, tags.join(" "));
     }
+    assert!(packed.len() <= MOST_STORED, "the buffer of plan_vectors has no room for the small cases");
     let mut large = String::new();
     for (number, case) in large::all().iter().enumerate() {
         let input = make_large(case);
