@@ -20,7 +20,7 @@ use Rattle.plan_rules.specs.World.{Query}
 use Rattle.plan_rules.specs.Scratch.{countsNamed, marksNamed}
 use Rattle.plan_rules.specs.Questions.{viewOk, zoomOk, depthOk, hasScratch, queryRefusalUpTo}
 use Rattle.plan_rules.specs.Outcome.{Outcome, outcome, tapeOf, delivered, soundOutcomeUpTo, checkedOutcomeUpTo, outcomeUpTo}
-use Rattle.plan_rules.specs.Deeper.{formerMaxDepth, FormerAnswersStay, OnlyDeeperIsTooDeep, DeeperIsTooDeep, DeepIsAnswered}
+use Rattle.plan_rules.specs.Deeper.{formerMaxDepth, FormerAnswersStay, OnlyDeeperIsTooDeep, DeeperIsTooDeep, DeepIsAnswered, DeepNeedsScratch}
 use Rattle.plan_rules.proofs.OutcomeTheorem.{sheet-sound, query-refused, query-passed}
 
 -- ---- a depth that two greatest depths let pass has one outcome
@@ -95,7 +95,13 @@ deeper-is-too-deep deepest s q o k m counts asked deeper =
     sheet-sound deepest s q o k m counts (asked .sound) ∙ query-refused deepest (sheetOf s) (counts .cells) q o k m no (λ z. omega arith)
 
 pub deep-is-answered : DeepIsAnswered
-unfolding queryRefusalUpTo depthOk hasScratch
-deep-is-answered s q o k m counts asked within counts-lent marks-lent =
-    let yes : queryRefusalUpTo maxDepth (q .view) (q .zoom) (q .depth) (counts .cells) (length k) (length m) ≡ 0 = rw (asked .view, asked .zoom, le-leb _ _ within, le-leb _ _ counts-lent, le-leb _ _ marks-lent) in
+unfolding queryRefusalUpTo depthOk
+deep-is-answered s q o k m counts asked within lent =
+    let yes : queryRefusalUpTo maxDepth (q .view) (q .zoom) (q .depth) (counts .cells) (length k) (length m) ≡ 0 = rw (asked .view, asked .zoom, le-leb _ _ within, lent) in
     sheet-sound maxDepth s q o k m counts (asked .sound) ∙ query-passed maxDepth (sheetOf s) (counts .cells) q o k m yes
+
+pub deep-needs-scratch : DeepNeedsScratch
+unfolding queryRefusalUpTo depthOk
+deep-needs-scratch s q o k m counts asked within short =
+    let no : 11 ≡ queryRefusalUpTo maxDepth (q .view) (q .zoom) (q .depth) (counts .cells) (length k) (length m) = rw (asked .view, asked .zoom, le-leb _ _ within, short) in
+    sheet-sound maxDepth s q o k m counts (asked .sound) ∙ query-refused maxDepth (sheetOf s) (counts .cells) q o k m no (λ z. omega arith)

@@ -34,5 +34,6 @@ unfoldable pub queryRefusalUpTo : ℕ → WorldBBox → Float → ℕ → ℕ �
 queryRefusalUpTo deepest view zoom depth cells counts marks =
     cond (viewOk view) (cond (zoomOk zoom) (cond (depthOk deepest depth) (cond (hasScratch cells depth counts marks) 0 11) 10) 9) 8
 
+-- with question 10 as it is asked
 abbrev pub queryRefusal : WorldBBox → Float → ℕ → ℕ → ℕ → ℕ → ℕ
 queryRefusal = queryRefusalUpTo maxDepth

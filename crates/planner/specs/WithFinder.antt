@@ -22,7 +22,7 @@ use Rattle.plan_rules.specs.OnTape.{asked}
 unfoldable pub turnedAway : List ℕ → List ℕ → List ℕ → Outcome
 turnedAway o k m = outcome (Refused 13 0) (replicate (length o) 0) (replicate (length k) 0) (replicate (length m) 0)
 
--- After the sheet's own check (number 6 is its last no) and before questions 8 to 12, of which 10 is asked of a greatest depth.
+-- After the sheet's own check (number 6 is its last no) and before questions 8 to 12. First the greatest depth that question 10 lets pass.
 abbrev pub checkedWithUpTo : ℕ → Checked → List ℕ → List ℕ → Query → List ℕ → List ℕ → List ℕ → Outcome
 checkedWithUpTo deepest (checked.Refused number offset) s finder q o k m = outcome (Refused number offset) o k m
 checkedWithUpTo deepest (checked.Sound counts) s finder q o k m = cond (belongs finder s) (soundOutcomeUpTo deepest (sheetOf s) (counts .cells) q o k m) (turnedAway o k m)
@@ -30,6 +30,7 @@ checkedWithUpTo deepest (checked.Sound counts) s finder q o k m = cond (belongs 
 unfoldable pub outcomeWithUpTo : ℕ → List ℕ → List ℕ → Query → List ℕ → List ℕ → List ℕ → Outcome
 outcomeWithUpTo deepest s finder q o k m = checkedWithUpTo deepest (checkSheet s) s finder q o k m
 
+-- with question 10 as it is asked
 abbrev pub outcomeWith : List ℕ → List ℕ → Query → List ℕ → List ℕ → List ℕ → Outcome
 outcomeWith = outcomeWithUpTo maxDepth
 

@@ -91,7 +91,11 @@ pub answered-now : ((outcomeOf workedSheet (to 33) (replicate 88 7) (replicate 3
 unfolding workedText workedCell workedSheet opened openedSheet
 answered-now = (refl, refl, refl, refl)
 
--- what the former question said of the first of them
+-- what the former question said of the first of them, and of depth 32
 pub formerly-refused : outcomeUpTo formerMaxDepth workedSheet (to 33) (replicate 88 7) (replicate 33 8) (replicate 35 9) ≡ outcome (Refused 10 0) (replicate 88 7) (replicate 33 8) (replicate 35 9)
 unfolding workedText workedCell workedSheet opened openedSheet
 formerly-refused = refl
+
+pub formerly-answered : (outcomeUpTo formerMaxDepth workedSheet (to 32) (replicate 88 7) (replicate 32 8) (replicate 34 9)) .number ≡ 0
+unfolding workedText workedCell workedSheet opened openedSheet
+formerly-answered = refl
