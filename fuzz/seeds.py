@@ -4,8 +4,6 @@ import pathlib
 import struct
 import sys
 
-LONGEST = 8192  # bytes of an input: fuzz/run
-
 
 def stored():
     """The stored cases' inputs."""
@@ -65,7 +63,7 @@ def nests():
 
 def main(folder):
     folder.mkdir(parents=True, exist_ok=True)
-    seeds = [*stored(), *(seed for seed in nests() if len(seed) <= LONGEST)]
+    seeds = [*stored(), *nests()]
     for number, seed in enumerate(seeds):
         (folder / f'{number:04}').write_bytes(seed)
     print(f'{len(seeds)} seeds in {folder}')

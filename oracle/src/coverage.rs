@@ -4,6 +4,7 @@ use std::collections::{BTreeMap, BTreeSet};
 
 use crate::answer::{End, Outcome};
 use crate::events::{Cause, Event, Limits, Run};
+use crate::levels::{self, Deep};
 use crate::sheet::{Cell, Query, Sheet, Source};
 
 /// Every tag that a full run should show, in the order of the table.
@@ -101,23 +102,16 @@ fn run_tags(run: &Run, tags: &mut BTreeSet<&'static str>) {
     tags.extend(met.iter().filter(|tag| tag.0).map(|tag| tag.1));
 }
 
-/// What stands at levels that only a depth above 32 reaches.
-fn level_tags(run: &Run, tags: &mut BTreeSet<&'static str>) {
-    for (event, level) in run.record.events.iter().zip(&run.record.levels) {
-        let is_item = matches!(event, Event::Batch { .. } | Event::Text { .. } | Event::Point { .. });
-        let cause = event.boxed().map(|(_, _, cause)| cause);
-        let shown = [
-            (level.own > 32 && is_item, "level-33-item"),
-            (level.own > 32 && cause.is_some(), "level-33-proxy"),
-            (level.own > 32 && cause == Some(Cause::DenseReference), "level-33-dense"),
-            (level.inner > 32, "level-33-inner"),
-            (level.own > 32 && cause == Some(Cause::Circle), "level-33-circle"),
-            (level.own == 48 && is_item, "level-48-item"),
-            (level.own == 48 && cause == Some(Cause::Circle), "level-48-circle"),
-        ];
-        tags.extend(shown.iter().filter(|tag| tag.0).map(|tag| tag.1));
-    }
-}
+/// The tags of what stands at levels that only a depth above 32 reaches.
+const LEVEL_TAGS: &[(Deep, &str)] = &[
+    (Deep::Item, "level-33-item"),
+    (Deep::Box, "level-33-proxy"),
+    (Deep::DenseReference, "level-33-dense"),
+    (Deep::Inner, "level-33-inner"),
+    (Deep::Circle, "level-33-circle"),
+    (Deep::ItemAt48, "level-48-item"),
+    (Deep::CircleAt48, "level-48-circle"),
+];
 
 /// Above this a float counts as huge.
 const HUGE: f64 = 1e100;
@@ -214,7 +208,7 @@ pub fn tags(outcome: &Outcome) -> BTreeSet<&'static str> {
     if let (Some(sheet), Some(run), Some(query)) = (&outcome.sheet, &outcome.run, &outcome.query) {
         sheet_tags(sheet, &mut tags);
         run_tags(run, &mut tags);
-        level_tags(run, &mut tags);
+        tags.extend(levels::names(run, LEVEL_TAGS));
         float_tags(sheet, query, run, &mut tags);
         length_tags(sheet, query, &mut tags);
         let asked = [

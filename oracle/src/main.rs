@@ -17,6 +17,7 @@ mod finders;
 mod generator;
 mod harness;
 mod judge;
+mod levels;
 #[cfg(feature = "library")]
 mod library;
 mod planted;
@@ -133,13 +134,13 @@ const LONG_RUN: u64 = 3_000;
 fn cover(seed: u64, count: u64) {
     let tally = brute::search(variants::checked, seed, count, false);
     println!(
-        "{} sheets with {} paths and {} events; {} with paths cut at depth + 2 members (circles); {} passed over",
-        tally.sheets, tally.paths, tally.events, tally.circles, tally.passed_over
+        "{} sheets with {} paths and {} events; {} with paths cut at depth + 2 members; {} passed over",
+        tally.sheets, tally.paths, tally.events, tally.cut, tally.passed_over
     );
     println!("sheets that show: {:?}", tally.shown);
     println!("sheets by where a node grid met a limit:");
     tally.node_grids.iter().for_each(|(what, sheets)| println!("{sheets:8} {what}"));
-    println!("sheets by what stands below level 32:");
+    println!("sheets by what stands deeper than level 32:");
     tally.deep.iter().for_each(|(what, sheets)| println!("{sheets:8} {what}"));
     print!("{}", tally.most_dropped.line("small limits"));
     if let Some(first) = &tally.first {

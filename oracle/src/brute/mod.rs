@@ -19,6 +19,7 @@ use crate::generator::query::near;
 use crate::generator::rng::Rng;
 use crate::generator::square::{Shape, with_true_boxes};
 use crate::generator::unused::unused_sites;
+use crate::levels;
 use crate::sheet::{Query, Sheet};
 use paths::Paths;
 
@@ -31,13 +32,14 @@ pub struct Tally {
     pub sheets: u64,
     pub passed_over: u64,
     pub paths: u64,
-    pub circles: u64,
+    /// Sheets with paths that are longer than the bound.
+    pub cut: u64,
     pub events: u64,
     pub faults: u64,
     /// Sheets by what their plans show, and by where a node grid met a limit.
     pub shown: BTreeMap<&'static str, u64>,
     pub node_grids: BTreeMap<String, u64>,
-    /// Sheets by what their plans show below level 32.
+    /// Sheets by what their plans show deeper than level 32.
     pub deep: BTreeMap<&'static str, u64>,
     pub most_dropped: MostDropped,
     pub first: Option<String>,
@@ -55,7 +57,7 @@ impl Tally {
     /// The kinds that the run did not show: none of a long run.
     pub fn missing(&self) -> Vec<String> {
         let kinds = node_grids::wanted().into_iter().filter(|kind| !self.node_grids.contains_key(kind));
-        let deep = deep::WANTED.into_iter().filter(|kind| !self.deep.contains_key(kind)).map(str::to_string);
+        let deep = deep::WANTED.iter().map(|kind| kind.1).filter(|name| !self.deep.contains_key(name)).map(str::to_string);
         kinds.chain(deep).chain((self.most_dropped.proxies < 2).then(|| TWO_DROPPED.to_string())).collect()
     }
 }
@@ -84,7 +86,7 @@ fn limits(rng: &mut Rng) -> Limits {
     Limits { cells: most(1, 5), objects: most(1, 8), texts: most(1, 5), proxies: most(1, 4) }
 }
 
-/// Limits that a deep sheet meets at a level below 32, or none of them.
+/// Limits that a deep sheet meets deeper than level 32, or none of them.
 fn deep_limits(rng: &mut Rng) -> Limits {
     if rng.chance(1, 2) {
         return Limits::DOCUMENT;
@@ -157,13 +159,13 @@ fn one(plan: PlanFn, seed: u64, tally: &mut Tally) {
     let run = plan(&sheet, &query, Settings { limits, trace: true });
     tally.sheets += 1;
     tally.paths += paths.items.len() as u64;
-    tally.circles += u64::from(paths.cut);
+    tally.cut += u64::from(paths.cut);
     tally.events += run.record.events.len() as u64;
     tally.most_dropped.see(run.record.dropped, || format!("seed {seed}"));
     for shown in shown(&run) {
         *tally.shown.entry(shown).or_default() += 1;
     }
-    for shown in deep::shown(&run) {
+    for shown in levels::names(&run, deep::WANTED).collect::<BTreeSet<_>>() {
         *tally.deep.entry(shown).or_default() += 1;
     }
     for shown in node_grids::shown(&run, limits, &paths, |item| check::is_to_be_seen(&sheet, &query, item)) {

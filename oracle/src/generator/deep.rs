@@ -2,7 +2,8 @@
 //! sheets of other families at depths up to 49.
 
 use super::boxes::{Sides, join, reference_box};
-use super::encode::{QUARTERS, grid, single};
+use super::descent::{Descent, moved};
+use super::encode::single;
 use super::families::{Pair, chains, circles, density, slanted, square, units};
 use super::query::near;
 use super::rng::Rng;
@@ -16,11 +17,9 @@ const HELD: Sides = [-40.0, -40.0, 40.0, 40.0];
 /// A box that is wider than what it holds: what is dense below it is not dense above.
 const FRAME: Sides = [-200.0, -200.0, 200.0, 200.0];
 
-/// A descent from the bottom up, one level at a time, with true boxes. Cells are numbered from the bottom.
+/// A descent one level at a time.
 struct Nest {
-    sheet: Sheet,
-    last: Source,
-    sides: Sides,
+    descent: Descent,
     /// Nothing is moved, so that a circle keeps its boxes.
     still: bool,
     /// The units of each cell but the last.
@@ -35,22 +34,18 @@ impl Nest {
         sheet.batch(0, 1, rng.pick(&[1, 1, 128]), HELD);
         let bottom = sheet.cell(rng.pick(&[0, 1, 128]), Some(HELD));
         (bottom.texts, bottom.nodes, bottom.batches) = (vec![0], vec![0], vec![0]);
-        Self { sheet, last: Source::Cell(0), sides: HELD, still, units: rng.pick(&[0, 0, 1, 3, 4]) }
+        Self { descent: Descent::above(sheet, HELD), still, units: rng.pick(&[0, 0, 1, 3, 4]) }
     }
 
     /// A reference to the last level: of two members where `twice` is asked for.
     fn reference(&mut self, rng: &mut Rng, twice: bool) -> u32 {
-        let mut step = grid(self.last, Some(self.sides), (1 + u16::from(twice), 1), [0.0, 0.0]);
-        (step.cos, step.sin) = rng.pick(&QUARTERS);
-        step.reflection = rng.chance(1, 4);
-        if !self.still {
-            step.origin = [rng.range(-3, 3) as f64, rng.range(-3, 3) as f64];
-            step.spacing_x = [rng.range(0, 90) as f64, rng.range(0, 9) as f64];
-        }
-        self.sides = reference_box(&step, self.sides).expect("a member");
-        let number = self.sheet.reference(step);
-        self.last = Source::Reference(number);
-        number
+        self.descent.reference(rng, |rng, step| {
+            step.columns += u16::from(twice);
+            if !self.still {
+                moved(rng, step);
+                step.spacing_x = [rng.range(0, 90) as f64, rng.range(0, 9) as f64];
+            }
+        })
     }
 
     /// A cell around a reference to the last level, with items at times, and seldom with a frame.
@@ -58,38 +53,36 @@ impl Nest {
         let number = self.reference(rng, twice);
         let [text, node, batch] = [6, 3, 2].map(|odds| rng.chance(odds, 12));
         if text || node || batch {
-            self.sides = join(Some(self.sides), Some(HELD)).expect("two boxes");
+            self.descent.widen(HELD);
         }
         if !self.still && rng.chance(1, 48) {
-            self.sides = join(Some(self.sides), Some(FRAME)).expect("two boxes");
+            self.descent.widen(FRAME);
         }
-        let cell = self.sheet.cell(self.units, Some(self.sides));
+        let cell = self.descent.cell(self.units, number);
         (cell.texts, cell.nodes, cell.batches) = (vec![0; text.into()], vec![0; node.into()], vec![0; batch.into()]);
-        cell.references.push(number);
-        self.last = Source::Cell(self.sheet.cells.len() as u32 - 1);
     }
+}
 
-    /// The bottom lists the top, a middle cell or any cell again.
-    fn close(&mut self, rng: &mut Rng) {
-        let top = self.sheet.cells.len() - 1;
-        let any = rng.size(0, top);
-        let back = rng.pick(&[top, top, top / 2, any]);
-        let number = self.sheet.reference(single(Source::Cell(back as u32), self.sheet.cells[back].bbox));
-        self.sheet.cells[0].references.push(number);
-    }
+/// The bottom lists the top, a middle cell or any cell again.
+fn close(rng: &mut Rng, sheet: &mut Sheet) {
+    let top = sheet.cells.len() - 1;
+    let any = rng.size(0, top);
+    let back = rng.pick(&[top, top, top / 2, any]);
+    let number = sheet.reference(single(Source::Cell(back as u32), sheet.cells[back].bbox));
+    sheet.cells[0].references.push(number);
+}
 
-    /// The top lists a level below it once more, by an inner reference or directly: what is counted there is counted at two depths.
-    fn list_again(&mut self, rng: &mut Rng) {
-        let top = self.sheet.cells.len() - 1;
-        let number = self.sheet.cells[top].references[0];
-        let number = if rng.chance(1, 2) { number } else { rng.below(u64::from(number) + 1) as u32 };
-        let reference = &self.sheet.references[number as usize];
-        let sides = reference.bbox.and_then(|source| reference_box(reference, source));
-        let number = if rng.chance(3, 4) { self.sheet.reference(single(Source::Reference(number), sides)) } else { number };
-        let root = &mut self.sheet.cells[top];
-        root.references.push(number);
-        root.bbox = join(root.bbox, sides);
-    }
+/// The top lists a level below it once more, by an inner reference or directly: what is counted there is counted at two depths.
+fn list_again(rng: &mut Rng, sheet: &mut Sheet) {
+    let top = sheet.cells.len() - 1;
+    let number = sheet.cells[top].references[0];
+    let number = if rng.chance(1, 2) { number } else { rng.below(u64::from(number) + 1) as u32 };
+    let reference = &sheet.references[number as usize];
+    let sides = reference.bbox.and_then(|source| reference_box(reference, source));
+    let number = if rng.chance(3, 4) { sheet.reference(single(Source::Reference(number), sides)) } else { number };
+    let root = &mut sheet.cells[top];
+    root.references.push(number);
+    root.bbox = join(root.bbox, sides);
 }
 
 /// A descent of so many levels; the root is the last cell.
@@ -106,12 +99,13 @@ fn nested(rng: &mut Rng, levels: usize) -> Sheet {
             nest.cell(rng, twice);
         }
     }
+    let mut sheet = nest.descent.sheet;
     if still {
-        nest.close(rng);
+        close(rng, &mut sheet);
     } else if levels > 1 && rng.chance(1, 3) {
-        nest.list_again(rng);
+        list_again(rng, &mut sheet);
     }
-    nest.sheet
+    sheet
 }
 
 /// A query for the last cell at this depth, mostly of the whole of it, and at times so near that the units decide.

@@ -3,9 +3,9 @@
 use super::boxes::{Sides, join, reference_box};
 use super::encode::{QUARTERS, single};
 use super::rng::Rng;
-use crate::sheet::{Query, Sheet, Source};
+use crate::sheet::{Cell, Query, Reference, Sheet, Source};
 
-/// A sheet of a descent, one step at a time from the bottom up, with true boxes.
+/// A sheet of a descent, one step at a time from the bottom up, with true boxes. Cells are numbered from the bottom.
 pub struct Descent {
     pub sheet: Sheet,
     /// The last step: the cell at the bottom, a reference or a cell, and its box.
@@ -14,39 +14,40 @@ pub struct Descent {
 }
 
 impl Descent {
-    pub fn new() -> Self {
-        let mut sheet = Sheet::default();
-        let sides = [0.0, 0.0, 40.0, 40.0];
-        let text = sheet.text(1, 0, [7.0, 9.0]);
-        let batch = sheet.batch(2, 0, 1, sides);
-        let bottom = sheet.cell(1, Some(sides));
-        (bottom.texts, bottom.batches) = (vec![text], vec![batch]);
+    /// A sheet that has the cell at the bottom, with its box.
+    pub fn above(sheet: Sheet, sides: Sides) -> Self {
         Self { sheet, last: Source::Cell(0), sides }
     }
 
-    /// A turned reference to the last step.
-    pub fn reference(&mut self, rng: &mut Rng) -> u32 {
+    /// A turned reference to the last step, with what `place` changes of it.
+    pub fn reference(&mut self, rng: &mut Rng, place: impl FnOnce(&mut Rng, &mut Reference)) -> u32 {
         let mut step = single(self.last, Some(self.sides));
         (step.cos, step.sin) = rng.pick(&QUARTERS);
         step.reflection = rng.chance(1, 4);
-        step.origin = [rng.range(-3, 3) as f64, rng.range(-3, 3) as f64];
+        place(rng, &mut step);
         self.sides = reference_box(&step, self.sides).expect("a member");
         let number = self.sheet.reference(step);
         self.last = Source::Reference(number);
         number
     }
 
-    /// A cell that lists a reference to the last step, and sometimes the text.
-    pub fn cell(&mut self, rng: &mut Rng) {
-        let number = self.reference(rng);
-        let with_text = rng.chance(1, 3);
-        if with_text {
-            self.sides = join(Some(self.sides), Some([7.0, 9.0, 7.0, 9.0])).expect("two boxes");
-        }
-        let cell = self.sheet.cell(rng.below(3), Some(self.sides));
-        (cell.references, cell.texts) = (vec![number], vec![0; usize::from(with_text)]);
-        self.last = Source::Cell(self.sheet.cells.len() as u32 - 1);
+    /// The next cell's box holds these sides too, for what it has besides a reference.
+    pub fn widen(&mut self, sides: Sides) {
+        self.sides = join(Some(self.sides), Some(sides)).expect("two boxes");
     }
+
+    /// A cell that lists this reference to the step before.
+    pub fn cell(&mut self, units: u64, reference: u32) -> &mut Cell {
+        self.last = Source::Cell(self.sheet.cells.len() as u32);
+        let cell = self.sheet.cell(units, Some(self.sides));
+        cell.references.push(reference);
+        cell
+    }
+}
+
+/// Moves a reference by up to 3 either way.
+pub fn moved(rng: &mut Rng, step: &mut Reference) {
+    step.origin = [rng.range(-3, 3) as f64, rng.range(-3, 3) as f64];
 }
 
 /// Cells are numbered from the bottom up; this numbers them from the top down.

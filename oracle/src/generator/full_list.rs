@@ -50,17 +50,9 @@ pub fn called_for(rng: &mut Rng, count: u64) -> Vec<u8> {
     finish(descent(levels, listed - 1, dropped), wide(levels), rng)
 }
 
-pub fn any_descent(rng: &mut Rng, _: u64) -> Vec<u8> {
-    any_descent_of(rng, LEVELS)
-}
-
-pub fn any_descent_at_48(rng: &mut Rng, _: u64) -> Vec<u8> {
-    any_descent_of(rng, 48)
-}
-
 /// A descent of any shape, with inner references, circles, cells without a box and boxes at every level: the list runs full on
 /// the way.
-fn any_descent_of(rng: &mut Rng, levels: u32) -> Vec<u8> {
+pub fn any_descent(rng: &mut Rng, levels: u32) -> Vec<u8> {
     let mut sheet = Sheet::default();
     let dense = dense(&mut sheet);
     let text = sheet.text(2, 0, [5.0, 5.0]);

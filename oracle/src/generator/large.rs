@@ -48,8 +48,8 @@ pub const LARGE: &[Large] = &[
     large("dense batches of two cells", 100_003, dense_batches),
     large("proxies of small references", 100_000, small_references),
     large("proxies of small references", 100_002, small_references),
-    large("cells", 4_096, many_cells),
-    large("cells", 4_097, many_cells),
+    large("cells", 4_096, |rng, n| many_cells(rng, n, 32)),
+    large("cells", 4_097, |rng, n| many_cells(rng, n, 32)),
     large("cells, the last with a bad number", 4_097, many_cells_and_a_bad_number),
     large("sheet of so many bytes", 16_777_216, sheet_of_bytes),
     large("sheet of so many bytes", 16_777_217, sheet_of_bytes),
@@ -60,12 +60,12 @@ pub const LARGE: &[Large] = &[
     large("city", 2_000, city),
     large("city", 6_000, city),
     large("city", 12_000, city),
-    large("chain of cells", 3_000, long::chain_of_cells),
-    large("chain of cells", 4_096, long::chain_of_cells),
-    large("end of a chain of cells", 3_000, long::end_of_a_chain_of_cells),
-    large("end of a chain of cells", 4_096, long::end_of_a_chain_of_cells),
-    large("chain of references", 3_000, long::chain_of_references),
-    large("chain of references", 4_096, long::chain_of_references),
+    large("chain of cells", 3_000, |rng, n| long::chain_of_cells(rng, n, 32)),
+    large("chain of cells", 4_096, |rng, n| long::chain_of_cells(rng, n, 32)),
+    large("end of a chain of cells", 3_000, |rng, n| long::end_of_a_chain_of_cells(rng, n, 32)),
+    large("end of a chain of cells", 4_096, |rng, n| long::end_of_a_chain_of_cells(rng, n, 32)),
+    large("chain of references", 3_000, |rng, n| long::chain_of_references(rng, n, 32)),
+    large("chain of references", 4_096, |rng, n| long::chain_of_references(rng, n, 32)),
     large("four lists of so many numbers", 65_535, long::four_long_lists),
     large("hidden layers", 16_384, long::hidden_layers),
     large("hidden layers", 65_000, long::hidden_layers),
@@ -118,27 +118,27 @@ pub const LARGE: &[Large] = &[
     large("proxies called for", 100_001, full_list::called_for),
     large("proxies called for", 100_063, full_list::called_for),
     large("parts that want a box", 100_065, full_list::wanted),
-    large("any descent to a full list", 1, full_list::any_descent),
-    large("any descent to a full list", 2, full_list::any_descent),
-    large("any descent to a full list", 3, full_list::any_descent),
-    large("any descent to a full list", 4, full_list::any_descent),
-    large("any descent to a full list", 5, full_list::any_descent),
-    large("any descent to a full list", 6, full_list::any_descent),
-    large("any descent to a full list", 7, full_list::any_descent),
-    large("any descent to a full list", 8, full_list::any_descent),
+    large("any descent to a full list", 1, |rng, _| full_list::any_descent(rng, 32)),
+    large("any descent to a full list", 2, |rng, _| full_list::any_descent(rng, 32)),
+    large("any descent to a full list", 3, |rng, _| full_list::any_descent(rng, 32)),
+    large("any descent to a full list", 4, |rng, _| full_list::any_descent(rng, 32)),
+    large("any descent to a full list", 5, |rng, _| full_list::any_descent(rng, 32)),
+    large("any descent to a full list", 6, |rng, _| full_list::any_descent(rng, 32)),
+    large("any descent to a full list", 7, |rng, _| full_list::any_descent(rng, 32)),
+    large("any descent to a full list", 8, |rng, _| full_list::any_descent(rng, 32)),
     large("proxies called for", 100_065, full_list::called_for),
     large("proxies called for", 100_095, full_list::called_for),
-    large("any descent of 48 levels to a full list", 1, full_list::any_descent_at_48),
-    large("any descent of 48 levels to a full list", 2, full_list::any_descent_at_48),
-    large("any descent of 48 levels to a full list", 3, full_list::any_descent_at_48),
-    large("any descent of 48 levels to a full list", 4, full_list::any_descent_at_48),
-    large("cells at depth 48", 4_096, many_cells_at_48),
-    large("chain of cells at depth 48", 4_096, long::chain_of_cells_at_48),
-    large("end of a chain of cells at depth 48", 4_096, long::end_of_a_chain_of_cells_at_48),
-    large("chain of references at depth 48", 4_096, long::chain_of_references_at_48),
+    large("any descent of 48 levels to a full list", 1, |rng, _| full_list::any_descent(rng, 48)),
+    large("any descent of 48 levels to a full list", 2, |rng, _| full_list::any_descent(rng, 48)),
+    large("any descent of 48 levels to a full list", 3, |rng, _| full_list::any_descent(rng, 48)),
+    large("any descent of 48 levels to a full list", 4, |rng, _| full_list::any_descent(rng, 48)),
+    large("cells at depth 48", 4_096, |rng, n| many_cells(rng, n, 48)),
+    large("chain of cells at depth 48", 4_096, |rng, n| long::chain_of_cells(rng, n, 48)),
+    large("end of a chain of cells at depth 48", 4_096, |rng, n| long::end_of_a_chain_of_cells(rng, n, 48)),
+    large("chain of references at depth 48", 4_096, |rng, n| long::chain_of_references(rng, n, 48)),
 ];
 
-/// These and the deep sheets, which are large for their length alone.
+/// These and the deep sheets for which plan_vectors has no room.
 pub fn all() -> Vec<Large> {
     [LARGE, &deep::large_cases()].concat()
 }
@@ -346,16 +346,8 @@ fn small_references(rng: &mut Rng, count: u64) -> Vec<u8> {
     finish(sheet, query, rng)
 }
 
-fn many_cells(rng: &mut Rng, count: u64) -> Vec<u8> {
-    cells_at(rng, count, 32)
-}
-
-/// So many cells at the greatest depth take all of the scratch that a plan can take.
-fn many_cells_at_48(rng: &mut Rng, count: u64) -> Vec<u8> {
-    cells_at(rng, count, 48)
-}
-
-fn cells_at(rng: &mut Rng, count: u64, depth: u32) -> Vec<u8> {
+/// The most cells at the greatest depth take all of the scratch that a plan can take.
+fn many_cells(rng: &mut Rng, count: u64, depth: u32) -> Vec<u8> {
     let mut sheet = Sheet::default();
     let text = sheet.text(1, 1, [5.0, 5.0]);
     let last = sheet.reference(single(Source::Cell(count as u32 - 1), None));
@@ -368,7 +360,7 @@ fn cells_at(rng: &mut Rng, count: u64, depth: u32) -> Vec<u8> {
 }
 
 fn many_cells_and_a_bad_number(rng: &mut Rng, count: u64) -> Vec<u8> {
-    let mut bytes = many_cells(rng, count);
+    let mut bytes = many_cells(rng, count, 32);
     let mut sheet = Sheet::default();
     sheet.cell(1, None).batches.push(7);
     bytes.extend(super::encode::cell_bytes(&sheet.cells[0]));

@@ -2,7 +2,7 @@
 //! hidden layers, 4,096 cells, chains of cells and of inner references; and the large cases of the same.
 
 use super::boxes::{grow_true_boxes, join, reference_box, true_boxes};
-use super::descent::{Descent, from_the_top, whole_root};
+use super::descent::{Descent, from_the_top, moved, whole_root};
 use super::encode::{QUARTERS, input, single};
 use super::families::{Pair, square};
 use super::query::near;
@@ -108,19 +108,40 @@ pub fn many_hidden(rng: &mut Rng) -> Pair {
     (query, sheet)
 }
 
+/// The bottom of a chain: a cell with a text and a batch.
+fn chain() -> Descent {
+    let mut sheet = Sheet::default();
+    let sides = [0.0, 0.0, 40.0, 40.0];
+    let text = sheet.text(1, 0, [7.0, 9.0]);
+    let batch = sheet.batch(2, 0, 1, sides);
+    let bottom = sheet.cell(1, Some(sides));
+    (bottom.texts, bottom.batches) = (vec![text], vec![batch]);
+    Descent::above(sheet, sides)
+}
+
+/// One cell more, sometimes with the text.
+fn add_cell(chain: &mut Descent, rng: &mut Rng) {
+    let number = chain.reference(rng, moved);
+    let with_text = rng.chance(1, 3);
+    if with_text {
+        chain.widen([7.0, 9.0, 7.0, 9.0]);
+    }
+    chain.cell(rng.below(3), number).texts = vec![0; usize::from(with_text)];
+}
+
 /// Chains of up to 4,096 cells, of as many inner references, and of both.
 pub fn many_cells(rng: &mut Rng) -> Pair {
     let steps = count(rng, MOST_CELLS - 1);
     let inner_in_four = rng.pick(&[0, 0, 1, 4]);
-    let mut descent = Descent::new();
+    let mut chain = chain();
     for step in 1..=steps {
         if step < steps && rng.chance(inner_in_four, 4) {
-            descent.reference(rng);
+            chain.reference(rng, moved);
         } else {
-            descent.cell(rng);
+            add_cell(&mut chain, rng);
         }
     }
-    let mut sheet = descent.sheet;
+    let mut sheet = chain.sheet;
     let top = sheet.cells.len() - 1;
     // A sheet so long is no small case: the stored ones stay as they were.
     let long = sheet.references.len() > 33;
@@ -141,53 +162,33 @@ pub fn many_cells(rng: &mut Rng) -> Pair {
 
 /// So many cells, each in the next, numbered from the top.
 fn cells_in_one_another(rng: &mut Rng, cells: u64) -> Sheet {
-    let mut descent = Descent::new();
-    (1..cells).for_each(|_| descent.cell(rng));
-    from_the_top(&mut descent.sheet);
-    descent.sheet
+    let mut chain = chain();
+    (1..cells).for_each(|_| add_cell(&mut chain, rng));
+    from_the_top(&mut chain.sheet);
+    chain.sheet
 }
 
 /// So many cells, each in the next; the root is the first, which the others lie below.
-pub fn chain_of_cells(rng: &mut Rng, cells: u64) -> Vec<u8> {
+pub fn chain_of_cells(rng: &mut Rng, cells: u64, depth: u32) -> Vec<u8> {
     let sheet = cells_in_one_another(rng, cells);
-    input(&whole_root(&sheet, 0, 32, 1.0), &sheet, rng)
+    input(&whole_root(&sheet, 0, depth, 1.0), &sheet, rng)
 }
 
-/// The same at the greatest depth.
-pub fn chain_of_cells_at_48(rng: &mut Rng, cells: u64) -> Vec<u8> {
+/// Planned from the cell from which the last one is just reached.
+pub fn end_of_a_chain_of_cells(rng: &mut Rng, cells: u64, depth: u32) -> Vec<u8> {
     let sheet = cells_in_one_another(rng, cells);
-    input(&whole_root(&sheet, 0, 48, 1.0), &sheet, rng)
-}
-
-/// Planned from the cell 31 above the last one, which is just reached.
-pub fn end_of_a_chain_of_cells(rng: &mut Rng, cells: u64) -> Vec<u8> {
-    let sheet = cells_in_one_another(rng, cells);
-    input(&whole_root(&sheet, cells as usize - 32, 32, 1.0), &sheet, rng)
-}
-
-/// Planned from the cell 47 above the last one, which is just reached at the greatest depth.
-pub fn end_of_a_chain_of_cells_at_48(rng: &mut Rng, cells: u64) -> Vec<u8> {
-    let sheet = cells_in_one_another(rng, cells);
-    input(&whole_root(&sheet, cells as usize - 48, 48, 1.0), &sheet, rng)
-}
-
-pub fn chain_of_references(rng: &mut Rng, references: u64) -> Vec<u8> {
-    references_in_one_another(rng, references, 32)
-}
-
-pub fn chain_of_references_at_48(rng: &mut Rng, references: u64) -> Vec<u8> {
-    references_in_one_another(rng, references, 48)
+    input(&whole_root(&sheet, cells as usize - depth as usize, depth, 1.0), &sheet, rng)
 }
 
 /// So many references, each in the next. The root lists the last, the one from which a visit just reaches the end of
 /// the chain, and the one from which it does not.
-fn references_in_one_another(rng: &mut Rng, references: u64, depth: u32) -> Vec<u8> {
-    let mut descent = Descent::new();
+pub fn chain_of_references(rng: &mut Rng, references: u64, depth: u32) -> Vec<u8> {
+    let mut chain = chain();
     for _ in 1..references {
-        descent.reference(rng);
+        chain.reference(rng, moved);
     }
-    descent.cell(rng);
-    let mut sheet = descent.sheet;
+    add_cell(&mut chain, rng);
+    let mut sheet = chain.sheet;
     for number in [depth - 2, depth - 1] {
         sheet.cells[1].references.push(number);
         let reference = &sheet.references[number as usize];

@@ -2,19 +2,14 @@
 //! answer is what it was. Only depth above 48 gets number 10."
 
 use crate::answer::{Answer, Lent};
-use crate::edits::planted::all;
 use crate::events::{Run, Settings};
-use crate::generator::edges::deep::{cells, circle, four_units, references};
+use crate::generator::edges::deep::{LEVELS, cells, circle, four_units, references};
 use crate::generator::encode::cell_bytes;
 use crate::generator::large::wide;
-use crate::generator::{edges, faults, make_edge};
-use crate::judge::program::split;
-use crate::planted::text_with;
+use crate::generator::{edges, make_edge};
 use crate::sheet::{Query, Sheet};
 use crate::stored::answer;
 use crate::variants::{JUDGE, checked};
-
-const LEVELS: [u32; 4] = [33, 48, 49, 60];
 
 /// Whether so is each plan of the sheets that are nested 33, 48, 49 and 60 deep, at every depth from 1 to 48.
 fn each(sheet: fn(u32) -> Sheet, is_so: impl Fn(&Run, u32, u32) -> bool) -> bool {
@@ -68,19 +63,6 @@ fn scratch() -> bool {
     [32, 33, 47, 48].into_iter().all(|depth| [number(depth, 0, 0), number(depth, 1, 0), number(depth, 0, 1)] == [0, 11, 11])
 }
 
-/// With the planted mistake that has the limit of before, every case made by hand is answered as it was: alike up to depth 32, and
-/// with number 10 from 33 to 48, where no earlier question refuses.
-fn as_before() -> bool {
-    let name = "paper 13: depth 33 to 48 is refused, as before";
-    let (place, mistake) = all().enumerate().find(|(_, mistake)| mistake.name == name).expect("the limit of before");
-    let inputs = edges::all().iter().map(make_edge).chain(faults::all().into_iter().map(|fault| fault.input)).collect::<Vec<_>>();
-    inputs.iter().all(|input| {
-        let (now, before) = (answer(input).text, text_with(place + 1, mistake, input).expect("an answer"));
-        let is_new = split(input).is_some_and(|(query, _)| (33..=48).contains(&query.depth));
-        if is_new && !now.starts_with(b"refused") { before == b"refused 10 0\n" } else { before == now }
-    })
-}
-
 /// A sheet that is no deeper is planned alike from its own depth on.
 fn alike_at_every_depth() -> bool {
     let texts: Vec<Vec<u8>> = edges::all()
@@ -91,14 +73,13 @@ fn alike_at_every_depth() -> bool {
     texts.len() == 8 && texts.iter().all(|text| *text == texts[0])
 }
 
-pub fn readings() -> [(&'static str, bool); 7] {
+pub fn readings() -> [(&'static str, bool); 6] {
     [
         ("deep descents of cells", each(cells, descent)),
         ("deep chains of inner references", each(references, chain)),
         ("deep circles", each(circle, in_a_circle)),
         ("deep draw units", each(four_units, units)),
         ("scratch at depths 32, 33, 47 and 48", scratch()),
-        ("up to depth 32 every answer is what it was", as_before()),
         ("one reference at depths 2 to 48", alike_at_every_depth()),
     ]
 }

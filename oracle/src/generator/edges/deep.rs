@@ -1,5 +1,6 @@
 //! Deep sheets, for document 02's Paper 13: each shape nested 33, 48, 49 and 60 deep, at depths 32, 33, 47, 48 and 49. Nested so
-//! deep means that the last level is visited from that depth on. Some are small cases, the others large ones for their length.
+//! deep means that the last level is visited from that depth on. Some are small cases; the others are large ones, since
+//! plan_vectors has no room for all.
 
 use super::{Edges, add, wide};
 use crate::generator::boxes::grow_true_boxes;
@@ -8,14 +9,14 @@ use crate::generator::large::Large;
 use crate::generator::rng::Rng;
 use crate::sheet::{Sheet, Source};
 
-const LEVELS: [u32; 4] = [33, 48, 49, 60];
+pub const LEVELS: [u32; 4] = [33, 48, 49, 60];
 const DEPTHS: [u32; 5] = [32, 33, 47, 48, 49];
 
 struct Shape {
     name: &'static str,
     /// The sheet that is nested so deep, its root cell 0.
     sheet: fn(u32) -> Sheet,
-    /// The large case whose seed is 100 times the levels and the depth.
+    /// The large case whose seed is 100 × levels + depth.
     large: fn(&mut Rng, u64) -> Vec<u8>,
     /// Levels and depths of the small cases.
     small: &'static [(u32, u32)],
