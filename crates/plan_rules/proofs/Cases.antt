@@ -3,7 +3,7 @@
 --     Edges          narrowing, the limits, and the memory of counts
 --     Records        a record of each kind, byte by byte
 --     Plans          the events of whole plans on small sheets
---     Deep           plans and calls at depths above document 01's 32
+--     Deep           calls at depths above document 01's 32
 --     Calls          whole calls from bytes: the worked example, and refusals
 --     Opened         one name that opens the rules, to compute with them
 --     OpenedSheet    the same for questions 1 to 7

@@ -31,7 +31,7 @@ abbrev before : List (Unit {0} × Event) → List (Unit {0} × Event)
 before [] = []
 before (x ∷ l) = l
 
-abbrev pub events : Sheet → ℕ → Query → List Event
+abbrev events : Sheet → ℕ → Query → List Event
 events S cells q = behind [] (before ((freshPlan noTag note S cells q tt []) .out))
 
 -- a view of 100 by 100 at one pixel a unit
