@@ -5,10 +5,10 @@ use Prim.Native.Nat.{ℕ, _≤_, _<_}
 use mathlib.Core.List.{List}
 use lib.ListN.{length}
 use borrow.Author.Tests.{le-leb, lt-leb}
-use Rattle.walk.specs.Offsets.{offsets}
+use Rattle.walk.specs.Offsets.{maxSheetBytes, offsets}
 use Rattle.walk.specs.Find.{countOf}
 use Rattle.walk.specs.Every.{All}
-use Rattle.records.specs.Format.{maxSheetBytes, maxCells}
+use Rattle.records.specs.Format.{maxCells}
 use Rattle.check_record.specs.Record.{Right}
 use Rattle.check_sheet.specs.declared.Counts.{Counts}
 use Rattle.check_sheet.specs.declared.Checked.the-variants.{Sound, Refused}

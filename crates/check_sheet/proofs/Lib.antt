@@ -5,6 +5,7 @@
 --     Numbered     a refusal has a number from 1 to 7
 --     Valid        the answer is sound just where the sheet is valid
 --     WellFormed   a valid sheet is well formed
+--     Narrow       paper 4's statement
 --     Examples     small sheets and their answers, computed
 --     Passed       the counts of the records before an offset
 --     Remaining    the records from an offset on, and what question 7 still asks of them
@@ -17,4 +18,5 @@ pub mod Verdict
 pub mod Numbered
 pub mod Valid
 pub mod WellFormed
+pub mod Narrow
 pub mod Examples

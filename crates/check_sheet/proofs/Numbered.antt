@@ -8,9 +8,9 @@ use native.Mathlib.Omega.{arith}
 use lib.ListN.{length}
 use lib.Dec.{leb, eqb}
 use borrow.Author.Tests.{eqb-false}
-use Rattle.walk.specs.Offsets.{kindAt, offsets}
+use Rattle.walk.specs.Offsets.{maxSheetBytes, kindAt, offsets}
 use Rattle.walk.specs.Find.{countOf}
-use Rattle.records.specs.Format.{maxSheetBytes, maxCells}
+use Rattle.records.specs.Format.{maxCells}
 use Rattle.check_record.specs.Frame.{frameOk}
 use Rattle.check_record.specs.Shape.{shapeOk}
 use Rattle.check_record.specs.Values.{valuesOk}

@@ -7,10 +7,10 @@ use mathlib.Core.List.{List}
 use mathlib.Core.Bool.{Bool, true, false, cond}
 use lib.ListN.{length}
 use lib.Dec.{eqb}
-use Rattle.walk.specs.Offsets.{lengthAt, kindAt, offsetsFrom}
-use Rattle.walk.proofs.Offsets.{offsets-more, offsets-end}
-use Rattle.walk.specs.Find.{ofKindIn, countOf}
-use Rattle.walk.proofs.Finding.{countIn, count-step}
+use Rattle.walk.specs.Offsets.{maxSheetBytes, lengthAt, kindAt, offsetsFrom}
+use Rattle.walk.proofs.Offsets.{offsets-within, offsets-more, offsets-end}
+use Rattle.walk.specs.Find.{ofKindIn, countOf, countIn}
+use Rattle.walk.proofs.Finding.{count-step}
 use Rattle.check_sheet.specs.declared.Counts.{Counts}
 use Rattle.check_sheet.specs.Count.{countsOf, tallied, counted, AtMost}
 
@@ -32,6 +32,9 @@ tallied-next n kind k at size h w = omega (arith, tallied-at-most n kind k)
 abbrev Sum : List ℕ → ℕ → ℕ → ℕ → Type 0
 Sum s at k n = n + countIn s k (offsetsFrom s at) ≡ countOf s k
 
+sum-start : (s : List ℕ) (k : ℕ) → length s ≤ maxSheetBytes → Sum s 0 k 0
+sum-start s k h = let all = ap (countIn s k) (offsets-within s h) in omega arith
+
 sum-step : (s : List ℕ) (at k n : ℕ) → at < length s → 6 ≤ lengthAt s at → Sum s at k n → Sum s (at + lengthAt s at) k (tallied n (kindAt s at) k)
 unfolding tallied
 sum-step s at k n h w e =
@@ -52,6 +55,17 @@ pub record Passed (s : List ℕ) (at : ℕ) (c : Counts) : Type 0 where
   pub nodes : Sum s at 3 (c .nodes)
   pub references : Sum s at 4 (c .references)
   pub cells : Sum s at 5 (c .cells)
+
+pub passed-start : (s : List ℕ) → length s ≤ maxSheetBytes → Passed s 0 (record { geometries = 0; texts = 0; nodes = 0; references = 0; cells = 0 })
+passed-start s h =
+    record {
+      at-most = record { geometries = omega arith; texts = omega arith; nodes = omega arith; references = omega arith; cells = omega arith };
+      geometries = sum-start s 1 h;
+      texts = sum-start s 2 h;
+      nodes = sum-start s 3 h;
+      references = sum-start s 4 h;
+      cells = sum-start s 5 h;
+    }
 
 pub passed-step : (s : List ℕ) (at : ℕ) (c : Counts) → at < length s → 6 ≤ lengthAt s at → Passed s at c → Passed s (at + lengthAt s at) (counted (kindAt s at) c)
 unfolding counted

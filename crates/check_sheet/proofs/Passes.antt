@@ -1,9 +1,9 @@
 -- The two passes over the records, step by step.
 -- Assumes nothing.
-use mathlib.Core.Path.{_≡_, refl, sym, _∙_}
+use mathlib.Core.Path.{_≡_, refl, sym, ap, _∙_}
 use Prim.Native.Nat.{ℕ}
 use native.Mathlib.Omega.{arith}
-use mathlib.Core.List.{List, [], _∷_}
+use mathlib.Core.List.{List, [], _∷_, _++_, append-nil}
 use mathlib.Core.Bool.{Bool, true, false}
 use lib.Dec.{eqb}
 use borrow.Author.Tests.{eqb-true, eqb-false, eq-eqb, ne-eqb}
@@ -28,11 +28,15 @@ module _ (s : List ℕ) (at : ℕ) (xs : List ℕ) (later : Checked) where
   unfolding firstNo
   first-no-stop e = rw (ne-eqb (recordRefusal s at) 0 e)
 
+-- records that are right are passed
+pub right-passed : (s before xs : List ℕ) (later : Checked) → All (Right s) before → firstNo s (before ++ xs) later ≡ firstNo s xs later
+right-passed s [] xs later h = refl
+right-passed s (at ∷ before) xs later h = first-no-pass s at (before ++ xs) later (right-no-zero s at (h .0)) ∙ right-passed s before xs later (h .1)
+
 -- where every record is right, the answer is that of the later questions
 pub all-right-later : (s : List ℕ) (xs : List ℕ) (later : Checked) → All (Right s) xs → firstNo s xs later ≡ later
 unfolding firstNo
-all-right-later s [] later h = refl
-all-right-later s (at ∷ xs) later h = first-no-pass s at xs later (right-no-zero s at (h .0)) ∙ all-right-later s xs later (h .1)
+all-right-later s xs later h = ap (λ (l : List ℕ). firstNo s l later) (sym (append-nil xs)) ∙ right-passed s xs [] later h
 
 -- else the later questions are not asked
 pub data Scanned (s : List ℕ) (xs : List ℕ) : Type 0 where

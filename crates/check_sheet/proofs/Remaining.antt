@@ -1,6 +1,6 @@
 -- What the second pass has before it: the records from an offset on. Question 7 is asked of the references and cells among them alone.
 -- Assumes nothing.
-use mathlib.Core.Path.{_≡_, refl, sym, ap, _∙_}
+use mathlib.Core.Path.{_≡_, refl, sym, ap, subst, _∙_}
 use Prim.Native.Nat.{ℕ, _+_, _-_, _≤_, _<_}
 use native.Mathlib.Omega.{arith}
 use mathlib.Core.List.{List, [], _∷_}
@@ -8,10 +8,10 @@ use mathlib.Core.Bool.{Bool, true, false, cond}
 use lib.ListN.{length}
 use lib.Dec.{eqb}
 use borrow.Author.Tests.{ne-eqb}
-use Rattle.walk.specs.Offsets.{lengthAt, kindAt, offsetsFrom, offsets}
-use Rattle.walk.proofs.Offsets.{by-order, offsets-more, offsets-end}
-use Rattle.walk.specs.Find.{ofKindIn}
-use Rattle.walk.proofs.Finding.{countIn, count-step}
+use Rattle.walk.specs.Offsets.{maxSheetBytes, lengthAt, kindAt, offsetsFrom, offsets}
+use Rattle.walk.proofs.Offsets.{by-order, offsets-within, offsets-more, offsets-end}
+use Rattle.walk.specs.Find.{ofKindIn, countIn}
+use Rattle.walk.proofs.Finding.{count-step}
 use Rattle.walk.specs.Every.{All}
 use Rattle.walk.proofs.Every.{all-step}
 use Rattle.check_record.specs.Record.{Right}
@@ -74,14 +74,15 @@ pub record Remaining (s : List ℕ) (c : Counts) (at own left : ℕ) : Type 0 wh
   pub asked : left ≡ askedIn s (offsetsFrom s at)
   pub same : firstUnnamed s c own (offsetsFrom s at) (Sound c) ≡ firstUnnamed s c 0 (offsets s) (Sound c)
 
-pub all-remain : (s : List ℕ) (c : Counts) → All (Right s) (offsets s) → c ≡ countsOf s → Remaining s c 0 0 (c .references + c .cells)
+pub all-remain : (s : List ℕ) (c : Counts) → length s ≤ maxSheetBytes → All (Right s) (offsets s) → c ≡ countsOf s → Remaining s c 0 0 (c .references + c .cells)
 unfolding countsOf
-all-remain s c h e =
+all-remain s c short h e =
+    let all = offsets-within s short in
     record {
-      right = h;
+      right = subst (All (Right s)) all h;
       most = omega arith;
-      asked = ap (λ (x : Counts). x .references + x .cells) e;
-      same = refl;
+      asked = ap (λ (x : Counts). x .references + x .cells) e ∙ ap (askedIn s) all;
+      same = ap (λ (xs : List ℕ). firstUnnamed s c 0 xs (Sound c)) (sym all);
     }
 
 module _ (s : List ℕ) (c : Counts) (at own left : ℕ) (r : Remaining s c at own left) where

@@ -1,12 +1,15 @@
 -- The answer is sound just where the sheet is valid.
 -- Assumes nothing.
-use mathlib.Core.Path.{_≡_, refl, sym}
+use mathlib.Core.Path.{_≡_, refl, sym, subst}
 use Prim.Native.Nat.{ℕ}
 use native.Mathlib.Omega.{arith}
 use mathlib.Core.List.{List}
 use mathlib.Core.Bool.{Bool, true, false, cond}
 use borrow.Author.Tests.{leb-true, le-leb}
-use Rattle.walk.specs.Offsets.{offsets}
+use Rattle.walk.specs.Offsets.{offsetsFrom, offsets}
+use Rattle.walk.specs.Every.{All}
+use Rattle.walk.proofs.Offsets.{offsets-within}
+use Rattle.check_record.specs.Record.{Right}
 use Rattle.check_sheet.specs.declared.Counts.{Counts}
 use Rattle.check_sheet.specs.declared.Checked.{Checked}
 use Rattle.check_sheet.specs.declared.Checked.the-variants.{Sound, Refused}
@@ -20,6 +23,10 @@ unfolding checkSheet
 valid-sound s v =
     rw (le-leb _ _ (v .short), all-right-later s (offsets s) _ (v .records), le-leb _ _ (v .few-cells))
     (all-named-later s (countsOf s) 0 (offsets s) _ (v .named))
+
+-- the records of a valid sheet are right, from its start on
+pub valid-from-start : (s : List ℕ) → Valid s → All (Right s) (offsetsFrom s 0)
+valid-from-start s v = subst (All (Right s)) (offsets-within s (v .short)) (v .records)
 
 -- a test that refuses where it fails was passed where the answer is sound
 passed : (b : Bool) (x : Checked) (number at : ℕ) (c : Counts) → cond b x (Refused number at) ≡ Sound c → (b ≡ true) × (x ≡ Sound c)

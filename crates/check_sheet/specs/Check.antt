@@ -6,9 +6,9 @@ use mathlib.Core.Bool.{cond}
 use mathlib.Core.Option.{Option, none, some}
 use lib.ListN.{length}
 use lib.Dec.{leb, eqb}
-use Rattle.walk.specs.Offsets.{kindAt, offsets}
+use Rattle.walk.specs.Offsets.{maxSheetBytes, kindAt, offsets}
 use Rattle.walk.specs.Find.{countOf}
-use Rattle.records.specs.Format.{maxSheetBytes, maxCells}
+use Rattle.records.specs.Format.{maxCells}
 use Rattle.check_record.specs.Record.{recordRefusal}
 use Rattle.check_sheet.specs.declared.Counts.{Counts}
 use Rattle.check_sheet.specs.declared.Checked.{Checked}

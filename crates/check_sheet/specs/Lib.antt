@@ -4,9 +4,11 @@
 --     Check        the answer, with the paper's number and offset of each case
 --     Valid        what a sheet is that passes them
 --     WellFormed   the same in the words of the abstract sheet: what is named exists, the limits hold, every float is finite
+--     Narrow       document 02's paper 4: a length that reaches past the end
 -- Assumes nothing.
 pub mod Count
 pub mod Links
 pub mod Check
 pub mod Valid
 pub mod WellFormed
+pub mod Narrow

@@ -5,10 +5,10 @@ use Prim.Native.Nat.{ℕ, _≤_}
 use mathlib.Core.List.{List, [], _∷_}
 use mathlib.Core.Bool.{true}
 use lib.ListN.{length}
-use Rattle.walk.specs.Offsets.{kindAt, offsets}
+use Rattle.walk.specs.Offsets.{maxSheetBytes, kindAt, offsets}
 use Rattle.walk.specs.Find.{countOf}
 use Rattle.walk.specs.Every.{All}
-use Rattle.records.specs.Format.{maxSheetBytes, maxCells}
+use Rattle.records.specs.Format.{maxCells}
 use Rattle.check_record.specs.Record.{Right}
 use Rattle.check_sheet.specs.declared.Counts.{Counts}
 use Rattle.check_sheet.specs.Count.{countsOf, tallied}

@@ -2,7 +2,7 @@
 ghost use mathlib.Core.Path.{_≡_};
 ghost use Rattle.check_sheet.specs.Check.{verdict, verdictOf};
 use records::format::MAX_CELLS;
-use records::format::MAX_SHEET_BYTES;
+use walk::MAX_SHEET_BYTES;
 
 mod links;
 mod scan;

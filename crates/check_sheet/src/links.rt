@@ -2,9 +2,9 @@
 ghost use mathlib.Core.Path.{_≡_};
 ghost use Prim.Native.Nat.{_+_, _*_, _≤_};
 ghost use lib.ListN.{length};
-ghost use Rattle.walk.specs.Offsets.{offsets};
+ghost use Rattle.walk.specs.Offsets.{maxSheetBytes, offsets};
 ghost use Rattle.walk.specs.Every.{All};
-ghost use Rattle.records.specs.Format.{numberWidth, cell, endOf, maxSheetBytes};
+ghost use Rattle.records.specs.Format.{numberWidth, cell, endOf};
 ghost use Rattle.check_record.specs.Tests.{every};
 ghost use Rattle.check_record.specs.Shape.{listsAt};
 ghost use Rattle.check_record.specs.Record.{Right};
@@ -108,20 +108,21 @@ pub fn links(s: &[u8], c: Counts) -> Checked
     requires { ⌜ c ≡ countsOf (now s) ⌝ }
     ensures { λ r. ⌜ r ≡ firstUnnamed (now (s .entry)) c 0 (offsets (now (s .entry))) (Sound c) ⌝ }
 {
-    let mut at = 0;
+    let mut at = 0u32;
     let mut own = 0;
     let mut to_ask = c.references as usize + c.cells as usize;
     while 0 < to_ask {
-        let kind = fields::u16_within(s, at + KIND);
+        let index = at as usize;
+        let kind = walk::kind_within(s, at);
         if 3 < kind {
-            if link_ok(s, c, own, at) {
+            if link_ok(s, c, own, index) {
                 own = tally(own, kind, 4);
                 to_ask -= 1;
             } else {
-                return Checked::Refused(6, at);
+                return Checked::Refused(6, index);
             }
         }
-        at += fields::u32_within(s, at) as usize;
+        at = walk::next_within(s, at);
     }
     Checked::Sound(c)
 }

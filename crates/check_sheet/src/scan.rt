@@ -2,14 +2,12 @@
 ghost use mathlib.Core.Path.{_≡_};
 ghost use Prim.Native.Nat.{_≤_, _<_};
 ghost use lib.ListN.{length};
-ghost use Rattle.walk.specs.Offsets.{offsets};
-ghost use Rattle.records.specs.Format.{maxSheetBytes};
+ghost use Rattle.walk.specs.Offsets.{maxSheetBytes, offsets};
 ghost use Rattle.check_sheet.specs.declared.Checked.the-variants.{Sound};
 ghost use Rattle.check_sheet.specs.Count.{countsOf, tallied, counted, AtMost};
 ghost use Rattle.check_sheet.specs.Check.{firstNo};
 use crate::Checked;
 use crate::Counts;
-use fields::KIND;
 
 // n, and one more where a record is of the kind k.
 pub fn tally(n: u32, kind: u16, k: u16) -> u32
@@ -38,7 +36,8 @@ pub fn scan(s: &[u8]) -> Checked
     requires { ⌜ length (now s) ≤ maxSheetBytes ⌝ }
     ensures { λ r. ⌜ r ≡ firstNo (now (s .entry)) (offsets (now (s .entry))) (Sound (countsOf (now (s .entry)))) ⌝ }
 {
-    let mut at = 0;
+    let size = s.len() as u32;
+    let mut at = 0u32;
     let mut counts = Counts {
         geometries: 0,
         texts: 0,
@@ -46,13 +45,14 @@ pub fn scan(s: &[u8]) -> Checked
         references: 0,
         cells: 0,
     };
-    while at < s.len() {
-        let number = check_record::record_refusal(s, at);
+    while at < size {
+        let index = at as usize;
+        let number = check_record::record_refusal(s, index);
         if number != 0 {
-            return Checked::Refused(number, at);
+            return Checked::Refused(number, index);
         }
-        counts = count(fields::u16_within(s, at + KIND), counts);
-        at += fields::u32_within(s, at) as usize;
+        counts = count(walk::kind_within(s, at), counts);
+        at = walk::next_within(s, at);
     }
     Checked::Sound(counts)
 }

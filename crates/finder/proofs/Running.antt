@@ -12,10 +12,10 @@ use lib.Dec.{eqb}
 use borrow.Author.Tests.{eqb-true, eqb-false, eq-eqb}
 use Rattle.walk.specs.Offsets.{lengthAt, kindAt, offsetsFrom, offsets}
 use Rattle.walk.specs.Every.{All}
-use Rattle.walk.specs.Find.{ofKindIn, countOf}
+use Rattle.walk.specs.Find.{ofKindIn, countOf, countIn}
 use Rattle.walk.proofs.Offsets.{offsets-more}
 use Rattle.walk.proofs.Every.{all-step}
-use Rattle.walk.proofs.Finding.{countIn, count-step}
+use Rattle.walk.proofs.Finding.{count-step}
 use Rattle.check_record.specs.Record.{Right}
 use Rattle.check_record.proofs.Facts.Lengths.{shape-known}
 use Rattle.check_sheet.specs.Count.{countsOf}

@@ -7,15 +7,16 @@ use native.Mathlib.Omega.{arith}
 use lib.ListN.{length}
 use Rattle.walk.specs.Offsets.{lengthAt, kindAt, offsetsFrom, offsets}
 use Rattle.walk.specs.Every.{All}
-use Rattle.walk.specs.Find.{ofKindIn}
-use Rattle.walk.proofs.Offsets.{by-order, offsets-more, offsets-end, offsets-some}
+use Rattle.walk.specs.Find.{ofKindIn, countIn}
+use Rattle.walk.proofs.Offsets.{by-order, offsets-within, offsets-more, offsets-end, offsets-some}
 use Rattle.walk.proofs.Every.{all-step}
-use Rattle.walk.proofs.Finding.{countIn, count-step}
+use Rattle.walk.proofs.Finding.{count-step}
 use Rattle.records.specs.Format.{text, endOf}
 use Rattle.check_record.specs.Shape.{listsAt}
 use Rattle.check_record.specs.Record.{Right}
 use Rattle.check_record.proofs.Facts.Lengths.{Sized, shape-sized, shape-known}
 use Rattle.check_sheet.specs.Count.{countsOf}
+use Rattle.check_sheet.proofs.Valid.{valid-from-start}
 use Rattle.look_up.specs.Places.{countFor, startFor}
 use Rattle.finder.specs.Statements.{PlacesAreTheCounts, AsManyPlacesAsRecords, OnlyAnEmptySheetHasAnEmptyFinder, PlacesByTheBytes}
 use Rattle.finder.proofs.ByKind.{by-kind, one-kind, finder-length}
@@ -73,8 +74,13 @@ pub only-an-empty-sheet-has-an-empty-finder : OnlyAnEmptySheetHasAnEmptyFinder
 only-an-empty-sheet-has-an-empty-finder s valid none =
     by-order (length s) 0
     (λ h. omega arith)
-    (λ h. let first = offsets-some s 0 h in absurd (omega (arith, as-many-places-as-records s valid, ap length (first .1))))
+    (λ h. let first = offsets-some s 0 h in absurd (omega (arith, as-many-places-as-records s valid, ap length (offsets-within s (valid .short)), ap length (first .1))))
 
 pub places-by-the-bytes : PlacesByTheBytes
 places-by-the-bytes s valid =
-    omega (arith, as-many-places-as-records s valid, bytes-left s (length s) 0 (omega arith) (omega arith) (valid .records))
+    omega (
+      arith,
+      as-many-places-as-records s valid,
+      ap length (offsets-within s (valid .short)),
+      bytes-left s (length s) 0 (omega arith) (omega arith) (valid-from-start s valid),
+    )

@@ -4,7 +4,6 @@ ghost use Rattle.check_sheet.specs.Count.{countsOf};
 ghost use Rattle.check_sheet.specs.Valid.{Valid};
 ghost use Rattle.finder.specs.Finder.{belongs, startsOf};
 use check_sheet::Counts;
-use fields::KIND;
 use look_up::start_for;
 
 // The place of the first record of each kind, at the kind's number. No record has kind 0.
@@ -28,18 +27,19 @@ pub fn belongs(sheet: &[u8], finder: &[u32], c: Counts) -> bool
     ensures { λ r. ⌜ r ≡ belongs (now (finder .entry)) (now (sheet .entry)) ⌝ }
 {
     let mut places = starts(c);
-    let mut at = 0;
-    while at < sheet.len() {
-        let kind = fields::u16_within(sheet, at + KIND) as usize;
+    let size = sheet.len() as u32;
+    let mut at = 0u32;
+    while at < size {
+        let kind = walk::kind_within(sheet, at) as usize;
         let place = places[kind];
         if finder.len() <= place {
             return false;
         }
-        if finder[place] as usize != at {
+        if finder[place] != at {
             return false;
         }
         places[kind] = place + 1;
-        at += fields::u32_within(sheet, at) as usize;
+        at = walk::next_within(sheet, at);
     }
     true
 }

@@ -9,7 +9,6 @@ ghost use Rattle.finder.specs.Finder.{finderOf};
 ghost use Rattle.open_sheet.specs.Opening.{opening, openingOf};
 use check_sheet::Checked;
 use check_sheet::Counts;
-use fields::KIND;
 use look_up::count_for;
 use look_up::start_for;
 
@@ -29,13 +28,14 @@ fn fill(sheet: &[u8], finder: &mut [u32], c: Counts)
     ensures { λ _. ⌜ now (finder .exit) ≡ finderOf (now (sheet .entry)) ++ drop (length (finderOf (now (sheet .entry)))) (now (finder .entry)) ⌝ }
 {
     let mut places = finder::starts(c);
-    let mut at = 0;
-    while at < sheet.len() {
-        let kind = fields::u16_within(sheet, at + KIND) as usize;
+    let size = sheet.len() as u32;
+    let mut at = 0u32;
+    while at < size {
+        let kind = walk::kind_within(sheet, at) as usize;
         let place = places[kind];
-        finder[place] = at as u32;
+        finder[place] = at;
         places[kind] = place + 1;
-        at += fields::u32_within(sheet, at) as usize;
+        at = walk::next_within(sheet, at);
     }
 }
 

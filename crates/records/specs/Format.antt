@@ -57,10 +57,6 @@ cell =
 
 -- ---- The limits of a sheet
 
--- "Is the sheet at most 16,777,216 bytes?"
-abbrev pub maxSheetBytes : ℕ
-maxSheetBytes = 16777216
-
 -- "Are there at most 4,096 cells?"
 abbrev pub maxCells : ℕ
 maxCells = 4096

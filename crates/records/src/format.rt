@@ -85,8 +85,6 @@ pub const CELL_END: usize = REFERENCE_COUNT + 2;
 
 // ---- The limits of a sheet
 
-pub const MAX_SHEET_BYTES: usize = 16_777_216;
-
 pub const MAX_CELLS: u32 = 4_096;
 
 // Columns, and rows.

@@ -14,9 +14,9 @@ use Rattle.fields.specs.Head.{headWidth}
 use Rattle.fields.proofs.Writing.{length-uintBytes, length-recordBytes}
 use Rattle.fields.proofs.ReadBack.{uintAt-appended}
 use Rattle.walk.specs.Offsets.{lengthAt, kindAt, offsetsFrom}
-use Rattle.walk.specs.Find.{countOf, ofKindIn}
+use Rattle.walk.specs.Find.{countIn, ofKindIn}
 use Rattle.walk.proofs.Offsets.{offsets-end, offsets-more}
-use Rattle.walk.proofs.Finding.{countIn, count-step}
+use Rattle.walk.proofs.Finding.{count-step}
 use Rattle.abstract_sheet.specs.Sheet.{Sheet, sheetOf}
 use Rattle.check_sheet.specs.declared.Counts.{Counts}
 use Rattle.check_sheet.proofs.Valid.{sound-counts}
@@ -30,7 +30,7 @@ use Rattle.plan_rules.specs.Tape.{noTag, note, tape}
 use Rattle.plan_rules.specs.Outcome.{Outcome, freshPlan, tapeOf, outcomeOf}
 use Rattle.plan_rules.proofs.Questions.{passed}
 use Rattle.plan_rules.proofs.Accepted.{AcceptedOutcome, accepted-outcome}
-use Rattle.totals.specs.Proxies.{loadOf, listedIn, listedProxies, droppedProxies, untaggedEvents, seventhCount, TapeAddsUp, CallAddsUp, mostDropped, CallDropsAtMost, CallAlwaysAddsUp, CallsForAtMost}
+use Rattle.totals.specs.Proxies.{loadOf, listedIn, listedProxies, droppedProxies, untaggedEvents, seventhCount, proxyRecords, TapeAddsUp, CallAddsUp, mostDropped, CallDropsAtMost, CallAlwaysAddsUp, CallsForAtMost}
 use Rattle.totals.proofs.Proxies.{listed-and-dropped, unstopped, stops, at-most-counted, visited, visits-tally, totals-last}
 use Rattle.totals.proofs.DroppedVisits.{visits-drop-at-most}
 
@@ -110,7 +110,7 @@ tape-counted (x ∷ l) r =
     ∙ ap (λ (s : List ℕ). listedProxies l + (listedIn (loadOf e) + proxiesFrom s (length (tape l ++ encode e)))) (sym (append-assoc (tape l) (encode e) r))
     ∙ omega arith
 
-pub proxies-on-tape : {P : Type 0} (l : List (P × Event)) → countOf (tape l) 14 ≡ listedProxies l
+pub proxies-on-tape : {P : Type 0} (l : List (P × Event)) → proxyRecords (tape l) ≡ listedProxies l
 proxies-on-tape l =
     let all : tape l ++ [] ≡ tape l = append-nil (tape l) in
     let none-left : proxiesFrom (tape l) (length (tape l)) ≡ 0 = ap (countIn (tape l) 14) (offsets-end (tape l) (length (tape l)) (omega arith)) ∙ unfold ofKindIn in refl in

@@ -8,7 +8,8 @@ use Prim.Native.Nat.{ℕ, _+_, _-_, _*_, _≤_, _<_}
 use lib.ListN.{length, take}
 use Rattle.geometry.specs.declared.bbox.WorldBBox.{WorldBBox}
 use Rattle.fields.specs.Field.{uintAt}
-use Rattle.walk.specs.Find.{countOf}
+use Rattle.walk.specs.Offsets.{offsetsFrom}
+use Rattle.walk.specs.Find.{countIn}
 use Rattle.abstract_sheet.specs.Sheet.{Sheet, sheetOf}
 use Rattle.check_sheet.specs.Count.{countsOf}
 use Rattle.plan_rules.specs.declared.ScenePlan.{ScenePlan}
@@ -107,12 +108,16 @@ untaggedEvents s q = (freshPlan noTag note (sheetOf s) (countsOf s .cells) q tt 
 abbrev pub seventhCount : List ℕ → ℕ
 seventhCount tape = uintAt 8 tape (length tape - 8)
 
--- what the bytes of a tape say of the events: its records of kind 14, counted as a sheet's records are, and its last field
+-- how many records of kind 14 a tape has, counted as a sheet's records are
+abbrev pub proxyRecords : List ℕ → ℕ
+proxyRecords tape = countIn tape 14 (offsetsFrom tape 0)
+
+-- what the bytes of a tape say of the events: its proxies, and its last field
 pub record TapeAddsUp (tape : List ℕ) (l : List (Unit {0} × Event)) : Type 0 where
-  pub listed : countOf tape 14 ≡ listedProxies l
-  pub most : countOf tape 14 ≤ maxLoadProxies
+  pub listed : proxyRecords tape ≡ listedProxies l
+  pub most : proxyRecords tape ≤ maxLoadProxies
   pub dropped : seventhCount tape ≡ saturate (droppedProxies l)
-  pub together : seventhCount tape < maxTotal → countOf tape 14 + seventhCount tape ≡ calledFor l
+  pub together : seventhCount tape < maxTotal → proxyRecords tape + seventhCount tape ≡ calledFor l
 
 abbrev pub CallAddsUp : Type 0
 CallAddsUp = (s : List ℕ) (q : Query) (o k m : List ℕ) → let c = outcomeOf s q o k m in c .number ≡ 0 → TapeAddsUp (take (c .tapeLength) (c .out)) (untaggedEvents s q)
@@ -126,7 +131,7 @@ abbrev pub CallAlwaysAddsUp : Type 0
 CallAlwaysAddsUp = (s : List ℕ) (q : Query) (o k m : List ℕ)
     → let c = outcomeOf s q o k m in
     let tape = take (c .tapeLength) (c .out) in
-    c .number ≡ 0 → countOf tape 14 + seventhCount tape ≡ calledFor (untaggedEvents s q)
+    c .number ≡ 0 → proxyRecords tape + seventhCount tape ≡ calledFor (untaggedEvents s q)
 
 abbrev pub CallsForAtMost : Type 0
 CallsForAtMost = (s : List ℕ) (q : Query) (o k m : List ℕ) → (outcomeOf s q o k m) .number ≡ 0 → calledFor (untaggedEvents s q) ≤ maxLoadProxies + mostDropped (q .depth)

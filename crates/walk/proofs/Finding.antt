@@ -9,11 +9,11 @@ use mathlib.Core.Option.{Option, none, some}
 use lib.ListN.{length, getElem?}
 use lib.Dec.{eqb}
 use borrow.Author.Tests.{eq-eqb, ne-eqb}
-use Rattle.walk.specs.Offsets.{lengthAt, kindAt, offsetsFrom}
-use Rattle.walk.proofs.Offsets.{offsets-end, offsets-more, offsets-bad, offsets-some, by-order}
+use Rattle.walk.specs.Offsets.{maxSheetBytes, lengthAt, kindAt, offsetsFrom}
+use Rattle.walk.proofs.Offsets.{offsets-within, offsets-beyond, offsets-end, offsets-more, offsets-bad, offsets-some, by-order}
 use Rattle.walk.specs.declared.Found.{Found}
 use Rattle.walk.specs.declared.Found.the-variants.{At, Nothing}
-use Rattle.walk.specs.Find.{answer, countOf, find, findIn, ofKind, ofKindIn}
+use Rattle.walk.specs.Find.{answer, countIn, countOf, find, findIn, ofKind, ofKindIn}
 
 find-nil : (s : List ℕ) (kind n : ℕ) → findIn s kind n [] ≡ Nothing
 unfolding findIn ofKindIn answer
@@ -37,6 +37,14 @@ module _ (s : List ℕ) (kind at : ℕ) (xs : List ℕ) where
 abbrev pub findFrom : List ℕ → ℕ → ℕ → ℕ → Found
 findFrom s kind n at = findIn s kind n (offsetsFrom s at)
 
+-- in a sheet a walk begins at its start
+pub find-start : (s : List ℕ) (kind n : ℕ) → length s ≤ maxSheetBytes → findFrom s kind n 0 ≡ find s kind n
+find-start s kind n h = rw (offsets-within s h) refl
+
+-- in more bytes than a sheet may have there is nothing
+pub find-beyond : (s : List ℕ) (kind n : ℕ) → maxSheetBytes < length s → find s kind n ≡ Nothing
+find-beyond s kind n h = rw (offsets-beyond s h) (find-nil s kind n)
+
 -- past the last record there is nothing
 pub find-end : (s : List ℕ) (kind n at : ℕ) → length s ≤ at → findFrom s kind n at ≡ Nothing
 find-end s kind n at h = rw (offsets-end s at h) (find-nil s kind n)
@@ -53,6 +61,9 @@ module _ (s : List ℕ) (kind n at : ℕ) (within : at < length s) where
 
     pub find-stop : lengthAt s at < 6 → findFrom s kind n at ≡ Nothing
     find-stop h = rw (offsets-bad s at within h) (passed [] ∙ find-nil s kind m)
+
+    pub find-past : 6 ≤ lengthAt s at → length s ≤ at + lengthAt s at → findFrom s kind n at ≡ Nothing
+    find-past h past = find-on h ∙ find-end s kind m (at + lengthAt s at) past
 
 answer-at : (o : Option ℕ) (at : ℕ) → answer o ≡ At at → o ≡ some at
 unfolding answer
@@ -91,10 +102,6 @@ module _ (s : List ℕ) (kind n : ℕ) where
       by-order (countOf s kind) n
       (λ h. let z : _≡_ {A = ℕ} 0 1 = cc (find-none h) in absurd (omega arith))
       (λ h. h)
-
--- how many of a list of records are of a kind
-abbrev pub countIn : List ℕ → ℕ → List ℕ → ℕ
-countIn s kind xs = length (ofKindIn s kind xs)
 
 -- a record adds one to the count of its kind
 pub count-step : (s : List ℕ) (kind at : ℕ) (xs : List ℕ) → countIn s kind (at ∷ xs) ≡ cond (eqb (kindAt s at) kind) 1 0 + countIn s kind xs

@@ -1,4 +1,4 @@
--- Where the records of a sheet are: the three equations of the list of their offsets, which are all that a walk needs.
+-- Where the records of a sheet are: the three equations of the list of offsets from one on, and that of the whole list, which are all that a walk needs.
 -- Assumes nothing.
 use mathlib.Core.Path.{_≡_, refl, sym, ap, _∙_}
 use Prim.Native.Nat.{ℕ, zero, suc, _+_, _≤_, _<_}
@@ -8,7 +8,7 @@ use native.Mathlib.Omega.{arith}
 use mathlib.Core.List.{List, [], _∷_}
 use lib.ListN.{length}
 use borrow.Author.Tests.{lt-ltb, le-ltb, le-leb, lt-leb}
-use Rattle.walk.specs.Offsets.{lengthAt, offsetsFrom, offsetsIn}
+use Rattle.walk.specs.Offsets.{maxSheetBytes, lengthAt, offsetsFrom, offsetsIn, offsets}
 
 -- one number is at most another, or above it
 pub by-order {ℓ} : {X : Type ℓ} (a b : ℕ) → (a ≤ b → X) → (b < a → X) → X
@@ -58,3 +58,13 @@ module _ (s : List ℕ) where
   -- before the end of the bytes there is a record
   pub offsets-some : (at : ℕ) → at < length s → (xs : List ℕ) × (offsetsFrom s at ≡ at ∷ xs)
   offsets-some at h = by-order 6 (lengthAt s at) (λ k. (offsetsFrom s (at + lengthAt s at), offsets-more at h k)) (λ k. ([], offsets-bad at h k))
+
+  -- the records of a sheet are those from its start on
+  pub offsets-within : length s ≤ maxSheetBytes → offsets s ≡ offsetsFrom s 0
+  unfolding offsets
+  offsets-within h = rw (le-leb _ _ h)
+
+  -- more bytes than a sheet may have hold none
+  pub offsets-beyond : maxSheetBytes < length s → offsets s ≡ []
+  unfolding offsets
+  offsets-beyond h = rw (lt-leb _ _ h)

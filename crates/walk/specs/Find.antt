@@ -19,9 +19,12 @@ ofKindIn s kind (at ∷ xs) = cond (eqb (kindAt s at) kind) (at ∷ ofKindIn s k
 abbrev pub ofKind : List ℕ → ℕ → List ℕ
 ofKind s kind = ofKindIn s kind (offsets s)
 
--- how many records of a kind there are
+-- how many of a list of records are of a kind, and how many of all
+abbrev pub countIn : List ℕ → ℕ → List ℕ → ℕ
+countIn s kind xs = length (ofKindIn s kind xs)
+
 abbrev pub countOf : List ℕ → ℕ → ℕ
-countOf s kind = length (ofKind s kind)
+countOf s kind = countIn s kind (offsets s)
 
 -- the answer of a look-up
 unfoldable pub answer : Option ℕ → Found

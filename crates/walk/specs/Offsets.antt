@@ -1,5 +1,6 @@
 -- Where the records of a sheet are: the list of their offsets.
 -- Document 01: "Records run to the end of the bytes, little-endian: whole length (4 bytes), kind (2), body."
+-- An offset is a plain sum of lengths, whatever their size: nothing wraps here.
 -- Definitions only. Assumes nothing.
 use Prim.Native.Nat.{ℕ, zero, suc, _+_, _≤_}
 use mathlib.Core.List.{List, [], _∷_}
@@ -8,6 +9,10 @@ use lib.ListN.{length}
 use lib.Dec.{ltb, leb}
 use Rattle.fields.specs.Field.{uintAt}
 use Rattle.fields.specs.Head.{sizeWidth, kindWidth, headWidth}
+
+-- "A sheet has at most 16,777,216 bytes."
+abbrev pub maxSheetBytes : ℕ
+maxSheetBytes = 16777216
 
 -- a record's whole length
 abbrev pub lengthAt : List ℕ → ℕ → ℕ
@@ -29,9 +34,10 @@ offsetsIn (suc steps) s at =
 unfoldable pub offsetsFrom : List ℕ → ℕ → List ℕ
 offsetsFrom s at = offsetsIn (length s) s at
 
--- the offsets of the records of a sheet
-abbrev pub offsets : List ℕ → List ℕ
-offsets s = offsetsFrom s 0
+-- The offsets of the records of a sheet. More bytes than a sheet may have are no sheet and have no records, which question 1 refuses:
+-- so a walk over any bytes needs no offset of more than 32 bits.
+unfoldable pub offsets : List ℕ → List ℕ
+offsets s = cond (leb (length s) maxSheetBytes) (offsetsFrom s 0) []
 
 -- the record at an offset has its head and lies whole within the sheet
 pub record Whole (s : List ℕ) (at : ℕ) : Type 0 where

@@ -9,8 +9,9 @@ use denote.Ref.{now}
 use borrow.Author.Needs.{needs}
 use Rattle.walk.specs.Offsets.{lengthAt, offsetsFrom, offsets}
 use Rattle.walk.specs.Every.{All}
-use Rattle.walk.proofs.Offsets.{offsets-end}
+use Rattle.walk.proofs.Offsets.{offsets-within, offsets-end}
 use Rattle.check_record.specs.Record.{Right}
+use Rattle.check_sheet.proofs.Valid.{valid-from-start}
 use Rattle.finder.specs.Finder.{finderOf, startsOf}
 use Rattle.finder.proofs.Running.{AtHand, at-hand}
 use Rattle.open_sheet.proofs.Filling.{Fills, fills-start, fills-within, fills-next, fills-end}
@@ -18,10 +19,10 @@ use Rattle.open_sheet.proofs.fill.Statement.{statement}
 use Rattle.open_sheet.proofs.fill.Tie as tie
 
 abbrev Inv-loop : tie.InvT-loop
-Inv-loop sheet finder₀ places₀ at₀ finder places at = All (Right sheet) (offsetsFrom sheet at) × Fills sheet finder₀ finder places (offsetsFrom sheet at)
+Inv-loop sheet finder₀ places₀ size at₀ finder places at = All (Right sheet) (offsetsFrom sheet at) × Fills sheet finder₀ finder places (offsetsFrom sheet at)
 
 abbrev μ-loop : tie.MeasureT-loop
-μ-loop sheet finder₀ places₀ at₀ finder places at = length sheet - at
+μ-loop sheet finder₀ places₀ size at₀ finder places at = length sheet - at
 
 -- ---- The record at hand
 
@@ -45,30 +46,26 @@ module _ (c : tie.In-loop Inv-loop μ-loop) where
   filled = subst (Fills sheet lent (c .before .loop .finder) (c .before .loop .places)) (hand .first) (c .before .loop .inv .1)
 
 -- its place is within the list
-within : (c : tie.After-u16-within Inv-loop μ-loop) → getD (c .before .before .loop .places) (c .u16-within .result) 0 < length (c .before .before .loop .finder)
-within c = let i = c .before in rw (c .u16-within .ensures) (fills-within (sheet i) (lent i) (room i) _ _ (at i) _ (hand i .known) (filled i))
+within : (c : tie.After-kind-within Inv-loop μ-loop) → getD (c .before .before .loop .places) (c .kind-within .result) 0 < length (c .before .before .loop .finder)
+within c = let i = c .before in rw (c .kind-within .ensures) (fills-within (sheet i) (lent i) (room i) _ _ (at i) _ (hand i .known) (filled i))
+
+-- a sheet's size has 32 bits
+cast-size : tie.Need-cast-size Inv-loop μ-loop
+cast-size c = omega (arith, c .before .before .before .pre .0 .short)
 
 loop-holds : tie.Need-loop-holds Inv-loop μ-loop
 loop-holds c =
     let a = c .before .before .before in
     let s = now (a .args .sheet) in
-    let f = now (a .args .finder) in (
-      a .pre .0 .records,
-      subst (λ (p : List ℕ). Fills s f f p (offsets s)) (sym (c .starts .ensures ∙ ap startsOf (a .pre .1 .0))) (fills-start s f),
-    )
+    let f = now (a .args .finder) in
+    let start = subst (λ (p : List ℕ). Fills s f f p (offsets s)) (sym (c .starts .ensures ∙ ap startsOf (a .pre .1 .0))) (fills-start s f) in
+    (valid-from-start s (a .pre .0), subst (Fills s f f _) (offsets-within s (a .pre .0 .short)) start)
 
-add-u16-within : tie.Need-add-u16-within Inv-loop μ-loop
-add-u16-within c = omega (arith, hand c .right .whole)
-
-u16-within-requires : tie.Need-u16-within-requires Inv-loop μ-loop
-u16-within-requires c κs = omega (arith, hand c .right .whole)
+kind-within-requires : tie.Need-kind-within-requires Inv-loop μ-loop
+kind-within-requires c κs = hand c .right .whole
 
 array-read-place : tie.Need-array-read-place Inv-loop μ-loop
-array-read-place c = omega (arith, hand (c .before) .known, c .u16-within .ensures)
-
--- an offset is below 16,777,216
-cast-finder : tie.Need-cast-finder Inv-loop μ-loop
-cast-finder c = omega (arith, c .before .before .before .before .before .before .pre .0 .short)
+array-read-place c = omega (arith, hand (c .before) .known, c .kind-within .ensures)
 
 mul-finder : tie.Need-mul-finder Inv-loop μ-loop
 mul-finder c = let w = within c in search needs
@@ -80,21 +77,18 @@ add-places : tie.Need-add-places Inv-loop μ-loop
 add-places c = omega (arith, within c, c .before .before .loop .inv .1 .long)
 
 array-write-places : tie.Need-array-write-places Inv-loop μ-loop
-array-write-places c = omega (arith, hand (c .before) .known, c .u16-within .ensures)
+array-write-places c = omega (arith, hand (c .before) .known, c .kind-within .ensures)
 
-u32-within-requires : tie.Need-u32-within-requires Inv-loop μ-loop
-u32-within-requires c κs = omega (arith, hand (c .before) .right .whole)
-
-add-at : tie.Need-add-at Inv-loop μ-loop
-add-at c = omega (arith, hand (c .before .before) .right .whole, c .u32-within .ensures)
+next-within-requires : tie.Need-next-within-requires Inv-loop μ-loop
+next-within-requires c κs = let i = c .before in (i .before .before .before .before .before .pre .0 .short, hand i .right .whole)
 
 loop-less : tie.Need-loop-less Inv-loop μ-loop
-loop-less c = omega (arith, hand (c .before .before) .right .whole, c .u32-within .ensures)
+loop-less c = omega (arith, hand (c .before .before) .right .whole, c .next-within .ensures)
 
 loop-again : tie.Need-loop-again Inv-loop μ-loop
 loop-again c =
     let i = c .before .before in
-    rw (c .u32-within .ensures, c .before .u16-within .ensures)
+    rw (c .next-within .ensures, c .before .kind-within .ensures)
     (hand i .later, fills-next (sheet i) (lent i) (room i) _ _ (at i) _ (hand i .known) (filled i))
 
 same-length : tie.Need-same-length Inv-loop μ-loop
@@ -114,21 +108,18 @@ fill-spec =
     Inv-loop
     μ-loop
     (λ c κs. search needs)
+    cast-size
     loop-holds
-    add-u16-within
-    u16-within-requires
+    kind-within-requires
     (λ c. search needs)
     (λ c. search needs)
     array-read-place
-    cast-finder
     mul-finder
     slice-write-finder
     add-places
     (λ c. search needs)
     array-write-places
-    u32-within-requires
-    (λ c. search needs)
-    add-at
+    next-within-requires
     loop-less
     loop-again
     same-length

@@ -24,13 +24,13 @@ right : (c : tie.In-loop Inv-loop μ-loop) → Right (now (c .before .before .be
 right c = remains-right _ _ _ _ _ (c .before .loop .inv) (omega (arith, c .loop-test .taken))
 
 loop-holds : tie.Need-loop-holds Inv-loop μ-loop
-loop-holds c = let start = c .before .before .before in all-remain _ _ (start .pre .1 .0) (start .pre .1 .1)
+loop-holds c = let start = c .before .before .before in all-remain _ _ (start .pre .0) (start .pre .1 .0) (start .pre .1 .1)
 
-add-u16-within : tie.Need-add-u16-within Inv-loop μ-loop
-add-u16-within c = omega (arith, right c .whole)
+cast-index : tie.Need-cast-index Inv-loop μ-loop
+cast-index c = omega (arith, right c .whole, c .before .before .before .before .before .pre .0)
 
-u16-within-requires : tie.Need-u16-within-requires Inv-loop μ-loop
-u16-within-requires c κs = omega (arith, right c .whole)
+kind-within-requires : tie.Need-kind-within-requires Inv-loop μ-loop
+kind-within-requires c κs = right c .whole
 
 link-ok-requires : tie.Need-link-ok-requires Inv-loop μ-loop
 link-ok-requires c κs = right (c .before .before)
@@ -45,11 +45,8 @@ returns c =
     let i = c .before .before .before .before in
     asked-refused _ _ _ _ _ (i .before .loop .inv) (omega (arith, i .loop-test .taken)) (sym (c .before .link-ok .ensures) ∙ c .if2 .left)
 
-u32-within-requires : tie.Need-u32-within-requires Inv-loop μ-loop
-u32-within-requires c κs = omega (arith, right (c .before .before) .whole)
-
-add-at : tie.Need-add-at Inv-loop μ-loop
-add-at c = omega (arith, right (c .before .before .before) .whole)
+next-within-requires : tie.Need-next-within-requires Inv-loop μ-loop
+next-within-requires c κs = let i = c .before .before in (i .before .before .before .before .before .pre .0, right i .whole)
 
 loop-less : tie.Need-loop-less Inv-loop μ-loop
 loop-less c = omega (arith, right (c .before .before .before) .whole)
@@ -61,7 +58,7 @@ joined : (c : tie.Joined1 Inv-loop μ-loop)
 joined c =
     let i = c .before .before in
     let l = i .before .loop in
-    let kind = c .before .u16-within .ensures in
+    let kind = c .before .kind-within .ensures in
     ⊎-elim
     (λ w.
     rw (w .4, w .5, w .3 .ensures, kind)
@@ -70,7 +67,7 @@ joined c =
     (c .if1 .came)
 
 loop-again : tie.Need-loop-again Inv-loop μ-loop
-loop-again c = rw (c .u32-within .ensures) (joined (c .before))
+loop-again c = rw (c .next-within .ensures) (joined (c .before))
 
 returns-2 : tie.Need-returns-2 Inv-loop μ-loop
 returns-2 c = none-remain _ _ _ _ _ (c .before .loop .inv) (omega (arith, c .loop-test .left))
@@ -85,15 +82,13 @@ links-spec =
     (λ c. search needs)
     (λ c. search needs)
     loop-holds
-    add-u16-within
-    u16-within-requires
+    cast-index
+    kind-within-requires
     link-ok-requires
     tally-requires
     (λ c. search needs)
     returns
-    u32-within-requires
-    (λ c. search needs)
-    add-at
+    next-within-requires
     loop-less
     loop-again
     returns-2)
