@@ -1,242 +1,185 @@
 //! Times the validation of 16 MiB sheets, alone, with the filling of a finder and with the comparison of one, against the
-//! sum of their bytes, in one run: each round takes every measurement once, one after the other, and the least and the
-//! middle time of each are printed.
+//! sum of their bytes, and then the look-up without a finder, in one run: each round takes every measurement once, one after
+//! the other, and the least and the middle time of each are printed. Compiled with `--cfg against`, it races two libraries
+//! instead, which take turns at each call.
 
-use std::hint::black_box;
 use std::time::Instant;
 
-extern crate plain;
-extern crate vector;
+mod sheets;
 
-#[allow(improper_ctypes)]
-extern "C" {
-    fn sheet_check(s: *const u8, length: usize, offset: *mut usize) -> u32;
-    fn scene_open(
-        s: *const u8,
-        length: usize,
-        finder: *mut u32,
-        finder_length: usize,
-        offset: *mut usize,
-        places: *mut usize,
-    ) -> u32;
-    fn scene_plan_with_finder(
-        s: *const u8,
-        length: usize,
-        finder: *const u32,
-        finder_length: usize,
-        root: u32,
-        depth: u32,
-        min_x: f64,
-        min_y: f64,
-        max_x: f64,
-        max_y: f64,
-        zoom: f64,
-        hidden: *const u32,
-        hidden_length: usize,
-        out: *mut u8,
-        out_length: usize,
-        counts: *mut u64,
-        counts_length: usize,
-        marks: *mut u8,
-        marks_length: usize,
-        offset: *mut usize,
-        tape_length: *mut usize,
-    ) -> u32;
+#[cfg(against)]
+extern crate former;
+extern crate library;
+
+use sheets::{LISTED, Sheet};
+
+/// The calls of one library.
+struct Library {
+    check: fn(&[u8]) -> (u32, usize),
+    open: fn(&[u8], &mut [u32]) -> usize,
+    compare: fn(&[u8], &[u32]) -> u32,
+    plan: fn(&[u8], u32, u32) -> (u32, usize),
 }
 
-const MOST: usize = 16_777_216;
-
-/// The number and the offset of the first no, or 0 and 0.
-fn check(sheet: &[u8]) -> (u32, usize) {
-    let mut offset = usize::MAX;
-    // SAFETY: a Rattle slice is its address and its length, and the function only reads it.
-    let number = unsafe { sheet_check(sheet.as_ptr(), sheet.len(), &mut offset) };
-    (number, offset)
-}
-
-/// Fills the finder; the number of the sheet's places.
-fn open(sheet: &[u8], finder: &mut [u32]) -> usize {
-    let (mut offset, mut places) = (usize::MAX, usize::MAX);
-    // SAFETY: slices as above, and the function writes the finder, which is no part of the sheet.
-    let number = unsafe {
-        scene_open(sheet.as_ptr(), sheet.len(), finder.as_mut_ptr(), finder.len(), &mut offset, &mut places)
+macro_rules! library {
+    ($name:ident) => {
+        Library { check: $name::check, open: $name::open, compare: $name::compare, plan: $name::plan }
     };
-    assert_eq!(number, 0);
-    places
 }
 
-/// Questions 1 to 7 and the comparison of the finder: depth 49 is refused by number 10, and nothing is planned.
-fn compare(sheet: &[u8], finder: &[u32]) -> u32 {
-    let (mut offset, mut length) = (usize::MAX, usize::MAX);
-    let (hidden, mut out, mut counts, mut marks) = ([0u32; 0], [0u8; 0], [0u64; 0], [0u8; 0]);
-    // SAFETY: slices as above; what may be written is lent empty.
-    unsafe {
-        scene_plan_with_finder(
-            sheet.as_ptr(), sheet.len(), finder.as_ptr(), finder.len(), 0, 49, 0.0, 0.0, 0.0, 0.0, 1.0,
-            hidden.as_ptr(), 0, out.as_mut_ptr(), 0, counts.as_mut_ptr(), 0, marks.as_mut_ptr(), 0, &mut offset,
-            &mut length,
-        )
+// ---- what is measured
+
+/// A measurement, which asserts that the answer is the expected one.
+type Call = fn(&Library, &mut Sheet);
+
+const CHECK: Call = |library, sheet| assert_eq!((library.check)(&sheet.bytes), (0, 0), "{}", sheet.name);
+const OPEN: Call = |library, sheet| assert!((library.open)(&sheet.bytes, &mut sheet.finder) > 0);
+const COMPARE: Call = |library, sheet| assert_eq!((library.compare)(&sheet.bytes, &sheet.finder), 10, "{}", sheet.name);
+
+/// What a plan of a sheet whose root stands last takes, and what it takes up to its first look-up: depth 49 is refused after
+/// questions 1 to 7.
+const PLAN: Call = |library, sheet| assert_eq!((library.plan)(&sheet.bytes, sheet.root, 1), (0, 26 * LISTED + 62), "{}", sheet.name);
+const REFUSED: Call = |library, sheet| assert_eq!((library.plan)(&sheet.bytes, sheet.root, 49).0, 10, "{}", sheet.name);
+
+/// The least and the middle of some times, in milliseconds.
+#[derive(Clone, Copy)]
+struct Time {
+    least: f64,
+    middle: f64,
+}
+
+impl Time {
+    fn of(mut times: Vec<f64>) -> Self {
+        times.sort_by(f64::total_cmp);
+        Self { least: times[0], middle: times[times.len() / 2] }
+    }
+
+    /// Each of the two by a function.
+    fn with(self, other: Self, by: fn(f64, f64) -> f64) -> Self {
+        Self { least: by(self.least, other.least), middle: by(self.middle, other.middle) }
     }
 }
 
-fn milliseconds<T>(run: impl FnOnce() -> T) -> (f64, T) {
-    let start = Instant::now();
-    let result = black_box(run());
-    (start.elapsed().as_secs_f64() * 1e3, result)
-}
-
-// ---- sheets
-
-fn record(kind: u16, body: &[u8]) -> Vec<u8> {
-    let mut bytes = ((body.len() + 6) as u32).to_le_bytes().to_vec();
-    bytes.extend(kind.to_le_bytes());
-    bytes.extend(body);
-    bytes
-}
-
-fn floats(body: &mut Vec<u8>, values: &[f64]) {
-    for value in values {
-        body.extend(value.to_le_bytes());
-    }
-}
-
-fn text(n: u32, value: usize) -> Vec<u8> {
-    let mut body = vec![1, 0, (n % 7) as u8, 0];
-    floats(&mut body, &[n as f64, 0.5 * n as f64]);
-    body.resize(body.len() + value, b'a');
-    record(2, &body)
-}
-
-fn node(n: u32, points: usize) -> Vec<u8> {
-    let mut body = vec![2, 0, 0, 0];
-    for i in 0..points {
-        floats(&mut body, &[n as f64, i as f64]);
-    }
-    record(3, &body)
-}
-
-fn batch(n: u32) -> Vec<u8> {
-    let mut body = vec![3, 0, 0, 0];
-    body.extend((n % 100).to_le_bytes());
-    floats(&mut body, &[0.0, 0.0, n as f64, 1.0]);
-    record(1, &body)
-}
-
-fn reference(kind: u16, number: u32) -> Vec<u8> {
-    let mut body = vec![2, 0, 3, 0, 2, 0];
-    body.extend(kind.to_le_bytes());
-    body.extend(number.to_le_bytes());
-    floats(&mut body, &[1.0, 2.0, 10.0, 0.0, 0.0, 10.0, 1.0, 1.0, 0.0, 0.0, 0.0, 5.0, 5.0]);
-    record(4, &body)
-}
-
-fn cell(texts: &[u32]) -> Vec<u8> {
-    let mut body = vec![1, 0];
-    body.extend(7u64.to_le_bytes());
-    floats(&mut body, &[0.0, 0.0, 100.0, 100.0]);
-    body.extend([0, 0]);
-    body.extend((texts.len() as u16).to_le_bytes());
-    body.extend([0, 0, 0, 0]);
-    for number in texts {
-        body.extend(number.to_le_bytes());
-    }
-    record(5, &body)
-}
-
-/// Records of one form until the next would pass 16 MiB.
-fn filled(mut sheet: Vec<u8>, mut next: impl FnMut(u32) -> Vec<u8>) -> Vec<u8> {
-    for n in 0.. {
-        let bytes = next(n);
-        if sheet.len() + bytes.len() > MOST {
-            break;
+/// The times of each call, by library. Of two libraries each goes first in every other round.
+fn measure<const L: usize, const C: usize>(
+    libraries: &[Library; L],
+    calls: [Call; C],
+    sheet: &mut Sheet,
+    rounds: usize,
+) -> [[Time; L]; C] {
+    let mut times = [(); C].map(|_| [(); L].map(|_| Vec::new()));
+    for round in 0..rounds {
+        for (call, times) in calls.iter().zip(&mut times) {
+            for turn in 0..L {
+                let which = (round + turn) % L;
+                let start = Instant::now();
+                call(&libraries[which], sheet);
+                times[which].push(start.elapsed().as_secs_f64() * 1e3);
+            }
         }
-        sheet.extend(bytes);
     }
-    sheet
+    times.map(|of_call| of_call.map(Time::of))
 }
 
-/// Records of every kind in no regular order, by a fixed sequence of pseudo-random numbers.
-fn mixed() -> Vec<u8> {
-    let mut state = 1u64;
-    let mut random = move |below: u64| {
-        state = state.wrapping_mul(6364136223846793005).wrapping_add(1442695040888963407);
-        (state >> 33) % below
+/// Measures a plan and what it takes up to its first look-up; the difference.
+fn look_up<const L: usize>(libraries: &[Library; L], sheet: &mut Sheet, rounds: usize) -> [Time; L] {
+    let [refused, plan] = measure(libraries, [REFUSED, PLAN], sheet, rounds);
+    std::array::from_fn(|which| plan[which].with(refused[which], |whole, part| whole - part))
+}
+
+// ---- one library
+
+#[cfg(not(against))]
+mod table {
+    use super::*;
+    use sheets::{MOST, filled, text};
+    use std::hint::black_box;
+
+    extern crate plain;
+    extern crate vector;
+
+    const SUM: Call = |_, sheet| {
+        black_box(plain::sum(black_box(&sheet.bytes)));
     };
-    let (mut texts, mut cells) = (0u32, 0u32);
-    filled(Vec::new(), move |n| match random(100) {
-        0..=39 => {
-            texts += 1;
-            text(n, random(8) as usize)
+    const VECTOR_SUM: Call = |_, sheet| {
+        black_box(vector::sum(black_box(&sheet.bytes)));
+    };
+
+    /// How many records the look-ups of a plan pass: those before the root, and for each text that it lists those before the last text.
+    fn passed(records: usize) -> usize {
+        records - 1 + LISTED * (records - 2)
+    }
+
+    /// Two sheets that no program with a stack of 8 MB can hold: 16,777,216 bytes, and one more.
+    fn try_limits() {
+        let mut most = filled(MOST, Vec::new(), |n| text(n, 0));
+        let missing = MOST - most.len();
+        most.extend_from_slice(&vec![0; missing]);
+        let cut = most.len() - missing;
+        let mut whole = filled(MOST, text(0, missing), |n| text(n, 0));
+        assert_eq!(library::check(&most), (2, cut));
+        assert_eq!((whole.len(), library::check(&whole)), (MOST, (0, 0)));
+        whole.push(0);
+        assert_eq!(library::check(&whole), (1, 0));
+        println!("16,777,216 bytes are sound, 16,777,217 bytes are refused with 1 0, and a last record cut short with 2 {cut}\n");
+    }
+
+    pub fn print(rounds: usize) {
+        try_limits();
+        let libraries = [library!(library)];
+        println!("{:<30} {:>9} {:>8}  {:>17} {:>17} {:>17} {:>17} {:>17}  {:>6} {:>6}", "milliseconds, least / middle", "bytes", "records", "validation", "opening", "with a finder", "sum at -O", "sum with vectors", "/ -O", "/ vec.");
+        for mut sheet in sheets::all() {
+            let records = library::open(&sheet.bytes, &mut sheet.finder);
+            let times = measure(&libraries, [CHECK, OPEN, COMPARE, SUM, VECTOR_SUM], &mut sheet, rounds);
+            print!("{:<30} {:>9} {records:>8} ", sheet.name, sheet.bytes.len());
+            for [time] in times {
+                print!(" {:>8.2} {:>8.2}", time.least, time.middle);
+            }
+            let [[check], _, _, [sum], [vector_sum]] = times;
+            println!("  {:>6.2} {:>6.2}", check.least / sum.least, check.least / vector_sum.least);
         }
-        40..=64 => node(n, 1 + random(3) as usize),
-        65..=89 => batch(n),
-        90..=97 if texts > 0 => reference(2, random(texts as u64) as u32),
-        _ if cells < 4096 && texts > 0 => {
-            cells += 1;
-            cell(&[random(texts as u64) as u32, 0])
+        println!("\n{} look-ups without a finder, of the last record and of the last but one: a plan less its questions", 1 + LISTED);
+        println!("{:<30} {:>9} {:>8}  {:>17} {:>17}", "least / middle", "bytes", "records", "milliseconds", "ns a record");
+        for mut sheet in sheets::with_the_root_last() {
+            let records = library::open(&sheet.bytes, &mut sheet.finder);
+            let [time] = look_up(&libraries, &mut sheet, rounds);
+            let nanoseconds = |milliseconds| milliseconds * 1e6 / passed(records) as f64;
+            println!("{:<30} {:>9} {records:>8}  {:>8.2} {:>8.2} {:>8.2} {:>8.2}", sheet.name, sheet.bytes.len(), time.least, time.middle, nanoseconds(time.least), nanoseconds(time.middle));
         }
-        _ => batch(n),
-    })
+    }
+}
+
+// ---- two libraries
+
+#[cfg(against)]
+mod table {
+    use super::*;
+
+    fn print_race(sheet: &str, call: &str, [former, now]: [Time; 2]) {
+        let ratio = now.with(former, |now, former| now / former);
+        print!("{sheet:<30} {call:<14}");
+        for time in [former, now, ratio] {
+            print!(" {:>8.3} {:>8.3}", time.least, time.middle);
+        }
+        println!();
+    }
+
+    pub fn print(rounds: usize) {
+        let libraries = [library!(former), library!(library)];
+        println!("{:<30} {:<14} {:>17} {:>17} {:>17}", "milliseconds, least / middle", "", "former", "at hand", "at hand / former");
+        for mut sheet in sheets::all() {
+            library::open(&sheet.bytes, &mut sheet.finder);
+            let times = measure(&libraries, [CHECK, OPEN, COMPARE], &mut sheet, rounds);
+            for (call, times) in ["validation", "opening", "with a finder"].into_iter().zip(times) {
+                print_race(sheet.name, call, times);
+            }
+        }
+        for mut sheet in sheets::with_the_root_last() {
+            print_race(sheet.name, "look-up", look_up(&libraries, &mut sheet, rounds));
+        }
+    }
 }
 
 fn main() {
-    let sheets = [
-        ("texts of 26 bytes", filled(Vec::new(), |n| text(n, 0))),
-        ("nodes of 26 bytes", filled(Vec::new(), |n| node(n, 1))),
-        ("batches of 46 bytes", filled(Vec::new(), batch)),
-        ("references of 122 bytes", filled(text(0, 0), |_| reference(2, 0))),
-        ("all kinds mixed", mixed()),
-        ("4,096 cells of 1,000 numbers", {
-            let numbers = vec![0; 1000];
-            let mut left = 4096;
-            filled(text(0, 0), move |n| {
-                if left > 0 {
-                    left -= 1;
-                    cell(&numbers)
-                } else {
-                    text(n, 0)
-                }
-            })
-        }),
-    ];
-    // Two sheets that no program with a stack of 8 MB can hold: 16,777,216 bytes, and one more.
-    let mut most = filled(Vec::new(), |n| text(n, 0));
-    let missing = MOST - most.len();
-    most.extend_from_slice(&vec![0; missing]);
-    let cut = most.len() - missing;
-    let mut whole = filled(text(0, missing), |n| text(n, 0));
-    assert_eq!(check(&most), (2, cut));
-    assert_eq!((whole.len(), check(&whole)), (MOST, (0, 0)));
-    whole.push(0);
-    assert_eq!(check(&whole), (1, 0));
-    println!("16,777,216 bytes are sound, 16,777,217 bytes are refused with 1 0, and a last record cut short with 2 {cut}\n");
-
-    let rounds: usize = std::env::args().nth(1).map_or(31, |word| word.parse().unwrap());
-    println!("{:<30} {:>9} {:>8}  {:>17} {:>17} {:>17} {:>17} {:>17}  {:>6} {:>6}", "milliseconds, least / middle", "bytes", "records", "validation", "opening", "with a finder", "sum at -O", "sum with vectors", "/ -O", "/ vec.");
-    for (name, sheet) in &sheets {
-        measure(name, sheet, rounds);
-    }
-}
-
-/// A line of the table.
-fn measure(name: &str, sheet: &[u8], rounds: usize) {
-    assert_eq!(check(sheet), (0, 0), "{name}");
-    let mut finder = vec![0; sheet.len() / 26];
-    let records = open(sheet, &mut finder);
-    let mut times: [Vec<f64>; 5] = Default::default();
-    for _ in 0..rounds {
-        times[0].push(milliseconds(|| check(black_box(sheet))).0);
-        times[1].push(milliseconds(|| open(black_box(sheet), &mut finder)).0);
-        let (time, number) = milliseconds(|| compare(black_box(sheet), &finder));
-        assert_eq!(number, 10, "{name}: the finder is taken");
-        times[2].push(time);
-        times[3].push(milliseconds(|| plain::sum(black_box(sheet))).0);
-        times[4].push(milliseconds(|| vector::sum(black_box(sheet))).0);
-    }
-    print!("{name:<30} {:>9} {records:>8} ", sheet.len());
-    for list in &mut times {
-        list.sort_by(f64::total_cmp);
-        print!(" {:>8.2} {:>8.2}", list[0], list[list.len() / 2]);
-    }
-    println!("  {:>6.2} {:>6.2}", times[0][0] / times[3][0], times[0][0] / times[4][0]);
+    table::print(std::env::args().nth(1).map_or(31, |word| word.parse().unwrap()));
 }
