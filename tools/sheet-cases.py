@@ -3,17 +3,22 @@
 
     tools/sheet-cases.py            write what crates/sheet_vectors reads and what it must print
     tools/sheet-cases.py --check    fail where the files are not what this script writes
-    tools/sheet-cases.py --list     print every case: number, offset, bytes, label
+    tools/sheet-cases.py --list     print every case: number, offset, bytes, label, and its look-up
 
 Every case states the number and the offset that document 01, "Before a plan: the questions", gives
-it. They are written down here case by case, by hand; nothing in this script validates a sheet.
+it. Some also state a look-up without a finder: a kind, a number and the offset of the record that
+is found, or NOTHING. It is answered for refused sheets too, record by record from the start, up to
+a length below 6 or past the end. All are written down here case by case, by hand; nothing in this
+script validates a sheet or walks one.
 
-The file: for each case a head of 72 bytes, which is the expected number, the expected offset and
-the lengths of three parts with a repeat count (prefix, block, repeats, suffix; six numbers of 4
-bytes, little-endian) and a label of 48 bytes padded with spaces; then the parts. The sheet is the
-prefix, the block as often as it is repeated, and the suffix.
+The file: for each case a head of 84 bytes, which is the expected number, the expected offset, the
+lengths of three parts with a repeat count (prefix, block, repeats, suffix) and the look-up's kind
+(0 where there is none), number and expected offset (nine numbers of 4 bytes, little-endian) and a
+label of 48 bytes padded with spaces; then the parts. The sheet is the prefix, the block as often as
+it is repeated, and the suffix.
 """
 
+import collections
 import os
 import struct
 import sys
@@ -74,16 +79,20 @@ def changed(bytes_, at, value):
 
 # ---- the cases
 
+Case = collections.namedtuple("Case", "label number offset prefix block repeats suffix look_up")
 CASES = []
 
+NOTHING = 0xFFFFFFFF  # the offset of a look-up that finds no record
+NONE_ASKED = (0, 0, 0)
 
-def case(label, number, offset, sheet=b"", repeats=0, block=b"", suffix=b""):
-    CASES.append((label, number, offset, sheet, block, repeats, suffix))
+
+def case(label, number, offset, sheet=b"", repeats=0, block=b"", suffix=b"", look_up=NONE_ASKED):
+    CASES.append(Case(label, number, offset, sheet, block, repeats, suffix, look_up))
 
 
 def sound():
-    case("an empty sheet", 0, 0, b"")
-    case("the worked example", 0, 0, text() + cell(texts=[0]))
+    case("an empty sheet", 0, 0, b"", look_up=(5, 0, NOTHING))
+    case("the worked example", 0, 0, text() + cell(texts=[0]), look_up=(5, 0, 26))
     case("a batch of 46 bytes", 0, 0, batch())
     case("a text of 26 bytes, no value", 0, 0, text())
     case("a text with 1 value byte", 0, 0, text(value=b"a"))
@@ -104,19 +113,19 @@ def sound():
     case("a text source further on", 0, 0, reference(2, 1) + text() + text())
     case("a node source further on", 0, 0, reference(3, 0) + node())
     case("an earlier reference as source", 0, 0, reference() + reference(4, 0))
-    case("three references in a row", 0, 0, reference() + reference(4, 0) + reference(4, 1) + reference(4, 0))
+    case("three references in a row", 0, 0, reference() + reference(4, 0) + reference(4, 1) + reference(4, 0), look_up=(4, 3, 366))
     case("a cell of 56 bytes", 0, 0, cell())
     case("a cell without a box", 0, 0, cell(flags=0, box=NO_BOX))
-    case("a cell with all four lists", 0, 0, batch() + text() + node() + reference() + cell([0], [0], [0], [0]))
-    case("a cell before what it names", 0, 0, cell([0], [1], [0], [0]) + batch() + text() + text() + node() + reference())
+    case("a cell with all four lists", 0, 0, batch() + text() + node() + reference() + cell([0], [0], [0], [0]), look_up=(5, 0, 220))
+    case("a cell before what it names", 0, 0, cell([0], [1], [0], [0]) + batch() + text() + text() + node() + reference(), look_up=(2, 1, 144))
     case("a cell that names a text twice", 0, 0, text() + cell(texts=[0, 0]))
     case("a cell that is its own source's cell", 0, 0, reference(5, 0) + cell(references=[0]))
     case("a negative zero in a present box", 0, 0, cell(box=(MINUS_ZERO, 0, 0, 0)))
     case("a box with min above max", 0, 0, batch(box=(2.0, 2.0, 1.0, 1.0)))
     case("the largest finite float", 0, 0, text((0x7FEFFFFFFFFFFFFF, 0xFFEFFFFFFFFFFFFF)))
     case("the smallest floats", 0, 0, text((1, 0x800FFFFFFFFFFFFF)))
-    case("whole numbers at their largest", 0, 0, batch(layer=0xFFFF, data_type=0xFFFF, elements=0xFFFFFFFF) + cell(units=2**64 - 1))
-    case("4,096 cells", 0, 0, block=cell(flags=0, box=NO_BOX), repeats=4096)
+    case("whole numbers at their largest", 0, 0, batch(layer=0xFFFF, data_type=0xFFFF, elements=0xFFFFFFFF) + cell(units=2**64 - 1), look_up=(1, 0xFFFFFFFF, NOTHING))
+    case("4,096 cells", 0, 0, block=cell(flags=0, box=NO_BOX), repeats=4096, look_up=(5, 4095, 229320))
 
 
 def frame():
@@ -125,20 +134,37 @@ def frame():
     for n in range(1, 6):
         case(f"{n} bytes after a text", 2, 26, text() + b"\x1a\0\0\0\x02"[:n])
     for n in range(0, 6):
-        case(f"length {n}", 2, 0, text(length=n))
-    case("length 0 in the second record", 2, 46, batch() + text(length=0))
-    case("length 5 in the second record", 2, 46, batch() + text(length=5))
+        case(f"length {n}", 2, 0, text(length=n), look_up=(2, 1, NOTHING))
+    case("length 0 in the second record", 2, 46, batch() + text(length=0), look_up=(2, 0, 46))
+    # 5 bytes on stands what could be the head of a text.
+    case("length 5 in the second record", 2, 46, batch() + text(length=5, data_type=0x0200), look_up=(2, 1, NOTHING))
     case("length 7 with 6 bytes left", 2, 0, record(2, b"", length=7))
-    case("length FFFFFFFF", 2, 0, text(length=0xFFFFFFFF))
-    case("length FFFFFFFF in the second record", 2, 122, reference() + text(length=0xFFFFFFFF))
-    case("length FFFFFFE6, past 2^32 with the offset", 2, 26, text() + text(length=0xFFFFFFE6))
-    case("length 80000000", 2, 0, text(length=0x80000000))
-    case("length 0100001A, a text's with a high byte", 2, 0, text(length=0x0100001A))
     for name, whole in (("batch", batch()), ("text", text()), ("node", node()), ("reference", reference()), ("cell", cell())):
         case(f"a {name} whose last byte is missing", 2, 0, whole[:-1])
         case(f"a {name} that runs 1 byte past the end", 2, 26, text() + whole[:-1])
     case("a text of length 27 with 26 bytes left", 2, 0, text(length=27))
-    case("a head and nothing after it", 2, 26, text() + record(1, b"", length=46))
+    case("a head and nothing after it", 2, 26, text() + record(1, b"", length=46), look_up=(1, 0, 26))
+
+
+def long_lengths():
+    # What stands before such a record is found, and the record itself; what stands behind it is not.
+    for length in (0xFFFFFFFF, 0xFFFFFFFE, 0x80000000, 0x01000001):
+        case(f"length {length:08X} in the first record", 2, 0, batch(length=length) + text() + node(), look_up=(2, 0, NOTHING))
+        case(f"length {length:08X} in a middle record", 2, 46, batch() + text(length=length) + node(), look_up=(2, 0, 46))
+        case(f"length {length:08X} in the last record", 2, 72, batch() + text() + node(length=length), look_up=(2, 0, 46))
+    case("length FFFFFFFF in the only record", 2, 0, text(length=0xFFFFFFFF), look_up=(2, 0, 0))
+
+    # Added to the offset in 32 bits these lead back to where a record stands: a walk that did so would find it once more, or the
+    # node inside the text's value.
+    case("length FFFFFFE6 at 26, in 32 bits back to 0", 2, 26, text() + text(length=0xFFFFFFE6), look_up=(2, 2, NOTHING))
+    case("length FFFFFFB8 at 72, in 32 bits back to 0", 2, 72, batch() + node() + text(length=0xFFFFFFB8), look_up=(1, 1, NOTHING))
+    case("length FFFFFFE6 at 72, in 32 bits back to 46", 2, 72, batch() + text() + text(length=0xFFFFFFE6), look_up=(2, 2, NOTHING))
+    case("length FFFFFFE6 at 52, back into a value", 2, 52, text(value=node()) + text(length=0xFFFFFFE6), look_up=(3, 0, NOTHING))
+
+    # A text's length in the low 16, 24 or 31 bits: read so, it leads to the next record or to the sheet's end.
+    for length in (0x0001001A, 0x0100001A, 0x8000001A):
+        case(f"length {length:08X} before a node", 2, 26, text() + text(length=length) + node(), look_up=(3, 0, NOTHING))
+        case(f"length {length:08X} at the end", 2, 26, text() + text(length=length), look_up=(2, 1, 26))
 
 
 def shape():
@@ -267,7 +293,7 @@ def named():
 def several():
     bare = cell(flags=0, box=NO_BOX)
     case("4,097 cells", 7, 0, block=bare, repeats=4097)
-    case("4,097 cells and a text", 7, 0, block=bare, repeats=4097, suffix=text())
+    case("4,097 cells and a text", 7, 0, block=bare, repeats=4097, suffix=text(), look_up=(2, 0, 229432))
     case("4,097 cells, the first at fault by 6", 7, 0, cell(texts=[0]), block=bare, repeats=4096)
     case("4,097 cells, the last at fault by 4", 4, 56 * 4096, block=bare, repeats=4096, suffix=cell(flags=2))
     case("4,097 cells and one byte more", 2, 56 * 4097, block=bare, repeats=4097, suffix=b"\0")
@@ -288,7 +314,7 @@ def several():
     case("the second record's no, then the third's", 4, 26, text() + cell(flags=4) + text((NAN, 0.0)))
 
 
-for group in (sound, frame, shape, values, finite, named, several):
+for group in (sound, frame, long_lengths, shape, values, finite, named, several):
     group()
 
 # ---- the files
@@ -296,41 +322,50 @@ for group in (sound, frame, shape, values, finite, named, several):
 
 def packed():
     out = b""
-    for label, number, offset, prefix, block, repeats, suffix in CASES:
-        name = label.encode().ljust(48)
-        assert len(name) == 48, label
-        out += struct.pack("<6I", number, offset, len(prefix), len(block), repeats, len(suffix)) + name + prefix + block + suffix
+    for case in CASES:
+        name = case.label.encode().ljust(48)
+        assert len(name) == 48, case.label
+        out += struct.pack("<6I", case.number, case.offset, len(case.prefix), len(case.block), case.repeats, len(case.suffix))
+        out += struct.pack("<3I", *case.look_up) + name + case.prefix + case.block + case.suffix
     return out
+
+
+def look_ups():
+    return sum(case.look_up != NONE_ASKED for case in CASES)
 
 
 def expected():
     lines = []
     for number in range(8):
         name = "sound" if number == 0 else f"refusal {number}"
-        passed = sum(case[1] == number for case in CASES)
+        passed = sum(case.number == number for case in CASES)
         lines.append(f"{name}: {passed} passed, 0 failed\n")
-    return "".join(lines) + f"{len(CASES)} passed, 0 failed\n"
+    lines.append(f"look-ups: {look_ups()} passed, 0 failed\n")
+    return "".join(lines) + f"{len(CASES) + look_ups()} passed, 0 failed\n"
 
 
 def main():
-    labels = [case[0] for case in CASES]
+    labels = [case.label for case in CASES]
     assert len(set(labels)) == len(labels), [label for label in labels if labels.count(label) > 1]
     crate = os.path.join(os.path.dirname(os.path.abspath(__file__)), "..", "crates", "sheet_vectors")
     files = {os.path.join(crate, "stdin"): packed(), os.path.join(crate, "stdout"): expected().encode()}
     if sys.argv[1:] == ["--list"]:
-        for label, number, offset, prefix, block, repeats, suffix in CASES:
-            print(number, offset, len(prefix) + len(block) * repeats + len(suffix), label)
+        for case in CASES:
+            size = len(case.prefix) + len(case.block) * case.repeats + len(case.suffix)
+            kind, number, offset = case.look_up
+            found = "nothing" if offset == NOTHING else offset
+            print(case.number, case.offset, size, case.label + (f"; {number} of kind {kind}: {found}" if kind else ""))
     elif sys.argv[1:] == ["--check"]:
         for path, content in files.items():
             if open(path, "rb").read() != content:
                 sys.exit(f"{os.path.normpath(path)} is not what this script writes")
-        print(f"{len(CASES)} cases as written")
+        print(f"{len(CASES)} cases and {look_ups()} look-ups as written")
     elif sys.argv[1:]:
         sys.exit(__doc__)
     else:
         for path, content in files.items():
             open(path, "wb").write(content)
-        print(f"{len(CASES)} cases, {len(packed())} bytes")
+        print(f"{len(CASES)} cases, {look_ups()} look-ups, {len(packed())} bytes")
 
 
 main()

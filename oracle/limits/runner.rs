@@ -85,17 +85,17 @@ fn run_small(cases: &[Small]) -> Option<String> {
     seen.map(|case| case.label.clone())
 }
 
-/// The cases of crates/sheet_vectors: a head of 72 bytes, a prefix, a block that is repeated, a suffix.
+/// The cases of crates/sheet_vectors: a head of 84 bytes, a prefix, a block that is repeated, a suffix.
 fn run_sheets(repository: &str) -> Option<String> {
     let bytes = fs::read(format!("{repository}/crates/sheet_vectors/stdin")).unwrap();
     let mut at = 0;
     while at < bytes.len() {
         let field = |i: usize| u32_of(&bytes, at + 4 * i);
-        let label = String::from_utf8_lossy(&bytes[at + 24..at + 72]).trim_matches(['\0', ' ']).to_string();
-        let block = at + 72 + field(2);
+        let label = String::from_utf8_lossy(&bytes[at + 36..at + 84]).trim_matches(['\0', ' ']).to_string();
+        let block = at + 84 + field(2);
         let suffix = block + field(3);
         let end = suffix + field(5);
-        let sheet = [&bytes[at + 72..block], &bytes[block..suffix].repeat(field(4)), &bytes[suffix..end]].concat();
+        let sheet = [&bytes[at + 84..block], &bytes[block..suffix].repeat(field(4)), &bytes[suffix..end]].concat();
         let (number, offset) = (field(0), field(1));
         let run = || {
             let mut place = 0;

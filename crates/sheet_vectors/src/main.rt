@@ -1,12 +1,24 @@
-// Compares `check_sheet::check_sheet` with the answers that tools/sheet-cases.py writes down: it reads the
-// cases on standard input and prints, by expected number, how many passed and how many failed.
-// A case's head has 72 bytes: expected number, expected offset, length of the prefix, length of the
-// block, repeats of the block, length of the suffix (4 bytes each), and a label of 48.
+// Compares `check_sheet::check_sheet` and `walk::find` with the answers that tools/sheet-cases.py writes down: it reads the
+// cases on standard input and prints, by expected number and then of the look-ups, how many passed and how many failed.
+// A case's head has 84 bytes: expected number, expected offset, length of the prefix, length of the block, repeats of the
+// block, length of the suffix, kind and number to look up, expected offset of that (4 bytes each), and a label of 48.
+// The kind is 0 where nothing is looked up.
 ghost use Prim.Native.Nat.{_<_};
 ghost use lib.ListN.{length};
 use check_sheet::Checked;
 use libc::STDIN_FILENO;
 use streams::Input;
+use walk::Found;
+
+const LABEL: usize = 36;
+
+const HEAD: usize = 84;
+
+// The expected offset of a look-up that finds nothing.
+const NOTHING: u32 = 0xFFFF_FFFF;
+
+// The cases that are run together: a group for each expected number, 0 to 7, and one for all look-ups.
+const LOOK_UPS: u32 = 8;
 
 struct Case {
     number: u32,
@@ -15,6 +27,9 @@ struct Case {
     block: u32,
     repeats: u32,
     suffix: u32,
+    kind: u16,
+    item: u32,
+    found: u32,
 }
 
 // How many passed and failed, and whether all was written so far.
@@ -34,6 +49,9 @@ fn case_at(cases: &[u8], at: usize) -> Case
         block: fields::u32_at(cases, at + 12),
         repeats: fields::u32_at(cases, at + 16),
         suffix: fields::u32_at(cases, at + 20),
+        kind: fields::u16_at(cases, at + 24),
+        item: fields::u32_at(cases, at + 28),
+        found: fields::u32_at(cases, at + 32),
     }
 }
 
@@ -68,12 +86,9 @@ fn repeat(cases: &[u8], from: usize, n: u32, repeats: u32, sheet: &mut [u8], to:
     to
 }
 
-// Whether the bytes up to an end get the number and the offset. Those that fill the buffer do not: they may not be whole.
-fn answers(sheet: &[u8], end: usize, number: u32, offset: u32) -> bool {
-    if sheet.len() <= end {
-        return false;
-    }
-    match check_sheet::check_sheet(&sheet[..end]) {
+// Whether a sheet gets the number and the offset.
+fn verdict_is(sheet: &[u8], number: u32, offset: u32) -> bool {
+    match check_sheet::check_sheet(sheet) {
         Checked::Sound(_) => { if number == 0 { offset == 0 } else { false } }
         Checked::Refused(no, at) => {
             if no == number {
@@ -85,24 +100,43 @@ fn answers(sheet: &[u8], end: usize, number: u32, offset: u32) -> bool {
     }
 }
 
-// Whether the case at an offset passes.
-fn passes(cases: &[u8], at: usize, c: Case, sheet: &mut [u8]) -> bool
+// Whether the look-up of a record finds it at the offset, or nothing where nothing is expected.
+fn finds(sheet: &[u8], kind: u16, number: u32, offset: u32) -> bool {
+    match walk::find(sheet, kind, number) {
+        Found::At(at) => at == offset as usize,
+        Found::Nothing => offset == NOTHING,
+    }
+}
+
+// Whether the bytes up to an end get what a group asks for. Those that fill the buffer do not: they may not be whole.
+fn answers(sheet: &[u8], end: usize, c: Case, group: u32) -> bool {
+    if sheet.len() <= end {
+        return false;
+    }
+    if group == LOOK_UPS {
+        return finds(&sheet[..end], c.kind, c.item, c.found);
+    }
+    verdict_is(&sheet[..end], c.number, c.offset)
+}
+
+// Whether the case at an offset passes in a group.
+fn passes(cases: &[u8], at: usize, c: Case, sheet: &mut [u8], group: u32) -> bool
     requires { ⌜ at < length (now cases) ⌝ }
 {
-    let prefix = at + 72;
+    let prefix = at + HEAD;
     let block = prefix + c.prefix as usize;
     let suffix = block + c.block as usize;
     let after_prefix = put(cases, prefix, c.prefix, sheet, 0);
     let after_blocks = repeat(cases, block, c.block, c.repeats, sheet, after_prefix);
     let end = put(cases, suffix, c.suffix, sheet, after_blocks);
-    answers(sheet, end, c.number, c.offset)
+    answers(sheet, end, c, group)
 }
 
 fn say_wrong(going: bool, cases: &[u8], at: usize) -> bool
     requires { ⌜ at < length (now cases) ⌝ }
 {
-    let from = at + 24;
-    let to = at + 72;
+    let from = at + LABEL;
+    let to = at + HEAD;
     let mut going = streams::print(going, b"wrong: ");
     if to <= cases.len() {
         going = streams::print(going, &cases[from..to]);
@@ -110,14 +144,23 @@ fn say_wrong(going: bool, cases: &[u8], at: usize) -> bool
     streams::print(going, b"\n")
 }
 
-// Runs the case at an offset where it has the expected number.
-fn compare_one(cases: &[u8], at: usize, c: Case, sheet: &mut [u8], number: u32, t: Tally) -> Tally
+// Whether a case is in a group.
+fn is_in(c: Case, group: u32) -> bool {
+    if group == LOOK_UPS {
+        c.kind != 0
+    } else {
+        c.number == group
+    }
+}
+
+// Runs the case at an offset where it is in the group.
+fn compare_one(cases: &[u8], at: usize, c: Case, sheet: &mut [u8], group: u32, t: Tally) -> Tally
     requires { ⌜ at < length (now cases) ⌝ }
 {
-    if c.number != number {
+    if !is_in(c, group) {
         return t;
     }
-    if passes(cases, at, c, sheet) {
+    if passes(cases, at, c, sheet, group) {
         Tally {
             passed: std::num::wrapping_add_u64(t.passed, 1),
             failed: t.failed,
@@ -132,8 +175,16 @@ fn compare_one(cases: &[u8], at: usize, c: Case, sheet: &mut [u8], number: u32, 
     }
 }
 
-// Runs the cases with one expected number.
-fn compare(cases: &[u8], sheet: &mut [u8], number: u32, going: bool) -> Tally {
+// Where the case behind the one at an offset begins.
+fn behind(cases: &[u8], at: usize, c: Case) -> usize
+    requires { ⌜ at < length (now cases) ⌝ }
+    ensures { λ r. ⌜ at < r ⌝ }
+{
+    at + HEAD + c.prefix as usize + c.block as usize + c.suffix as usize
+}
+
+// Runs the cases of a group.
+fn compare(cases: &[u8], sheet: &mut [u8], group: u32, going: bool) -> Tally {
     let mut at = 0;
     let mut t = Tally {
         passed: 0,
@@ -142,8 +193,8 @@ fn compare(cases: &[u8], sheet: &mut [u8], number: u32, going: bool) -> Tally {
     };
     while at < cases.len() {
         let c = case_at(cases, at);
-        t = compare_one(cases, at, c, sheet, number, t);
-        at += 72 + c.prefix as usize + c.block as usize + c.suffix as usize;
+        t = compare_one(cases, at, c, sheet, group, t);
+        at = behind(cases, at, c);
     }
     t
 }
@@ -155,18 +206,21 @@ fn say(t: Tally) -> bool {
     streams::print(going, b" failed\n")
 }
 
-fn say_number(going: bool, number: u32) -> bool {
-    if number == 0 {
+fn say_name(going: bool, group: u32) -> bool {
+    if group == 0 {
         return streams::print(going, b"sound: ");
     }
+    if group == LOOK_UPS {
+        return streams::print(going, b"look-ups: ");
+    }
     let going = streams::print(going, b"refusal ");
-    let going = streams::print_number(going, number as u64);
+    let going = streams::print_number(going, group as u64);
     streams::print(going, b": ")
 }
 
-// Says what came of the cases with one expected number, and adds them up.
-fn say_group(number: u32, t: Tally, sum: Tally) -> Tally {
-    let going = say_number(t.going, number);
+// Says what came of the cases of a group, and adds them up.
+fn say_group(group: u32, t: Tally, sum: Tally) -> Tally {
+    let going = say_name(t.going, group);
     let passed = t.passed;
     let failed = t.failed;
     Tally {
@@ -187,11 +241,11 @@ fn compare_all(cases: &[u8], sheet: &mut [u8]) {
         failed: 0,
         going: true,
     };
-    let mut number = 0u32;
-    while number < 8 {
-        let t = compare(cases, sheet, number, sum.going);
-        sum = say_group(number, t, sum);
-        number += 1;
+    let mut group = 0u32;
+    while group <= LOOK_UPS {
+        let t = compare(cases, sheet, group, sum.going);
+        sum = say_group(group, t, sum);
+        group += 1;
     }
     say(sum);
 }

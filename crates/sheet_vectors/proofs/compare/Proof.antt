@@ -1,4 +1,4 @@
--- `sheet_vectors::compare` is safe and ends: every case takes at least its head. The loop's invariant: the sheet keeps its length.
+-- `sheet_vectors::compare` is safe and ends: every case ends behind where it begins. The loop's invariant: the sheet keeps its length.
 -- Assumes nothing.
 use Prim.Native.Nat.{_-_}
 use mathlib.Core.Path.{_≡_, refl}
@@ -9,10 +9,10 @@ use Rattle.sheet_vectors.proofs.compare.Statement.{statement}
 use Rattle.sheet_vectors.proofs.compare.Tie as tie
 
 abbrev Inv-loop : tie.InvT-loop
-Inv-loop cases sheet₀ number going at₀ t₀ sheet at t = length sheet ≡ length sheet₀
+Inv-loop cases sheet₀ group going at₀ t₀ sheet at t = length sheet ≡ length sheet₀
 
 abbrev μ-loop : tie.MeasureT-loop
-μ-loop cases sheet₀ number going at₀ t₀ sheet at t = length cases - at
+μ-loop cases sheet₀ group going at₀ t₀ sheet at t = length cases - at
 
 loop-holds : tie.Need-loop-holds Inv-loop μ-loop
 loop-holds c = refl
@@ -22,6 +22,9 @@ case-at-requires c κs = omega arith
 
 compare-one-requires : tie.Need-compare-one-requires Inv-loop μ-loop
 compare-one-requires c κs = omega arith
+
+behind-requires : tie.Need-behind-requires Inv-loop μ-loop
+behind-requires c κs = omega arith
 
 loop-less : tie.Need-loop-less Inv-loop μ-loop
 loop-less c = omega arith
@@ -38,13 +41,7 @@ compare-spec =
     loop-holds
     case-at-requires
     compare-one-requires
-    (λ c. search needs)
-    (λ c. search needs)
-    (λ c. search needs)
-    (λ c. search needs)
-    (λ c. search needs)
-    (λ c. search needs)
-    (λ c. search needs)
+    behind-requires
     loop-less
     (λ c. search needs)
     (λ c. search needs)

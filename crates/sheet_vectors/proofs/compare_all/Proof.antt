@@ -9,10 +9,10 @@ use Rattle.sheet_vectors.proofs.compare_all.Statement.{statement}
 use Rattle.sheet_vectors.proofs.compare_all.Tie as tie
 
 abbrev Inv-loop : tie.InvT-loop
-Inv-loop cases sheet₀ sum₀ number₀ sheet sum number = length sheet ≡ length sheet₀
+Inv-loop cases sheet₀ sum₀ group₀ sheet sum group = length sheet ≡ length sheet₀
 
 abbrev μ-loop : tie.MeasureT-loop
-μ-loop cases sheet₀ sum₀ number₀ sheet sum number = 8 - number
+μ-loop cases sheet₀ sum₀ group₀ sheet sum group = 9 - group
 
 loop-holds : tie.Need-loop-holds Inv-loop μ-loop
 loop-holds c = refl
