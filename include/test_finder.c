@@ -306,14 +306,16 @@ static void test_refused_sheets(void)
     }
 }
 
-/* Numbers 1 and 7, which need large sheets: a byte too many, and a bare cell too many. */
+/* Numbers 1 and 7, which need large sheets: a byte too many, and a bare cell too many; and the longest sheet, whose last
+ * record then gets the longest length. */
 static void test_large_sheets(void)
 {
     static const uint32_t hidden[1] = { 0 };
     struct asked asked = { NULL, RIBALTZEN_MOST_SHEET + 1, 0, 0, { 0.0, 0.0, 1.0, 1.0 }, 1.0, hidden, 0 };
     uint8_t *sheet = (uint8_t *)calloc(RIBALTZEN_MOST_SHEET + 1, 1);
     struct list own;
-    size_t cells;
+    struct call call;
+    size_t cells, last;
     if (sheet == NULL) {
         abort();
     }
@@ -337,6 +339,12 @@ static void test_large_sheets(void)
     own = own_finder(sheet, asked.sheet_length);
     expect(own.length == RIBALTZEN_MOST_PLACES, "as many records as there may be");
     expect(expect_finder(&asked), "the most places");
+    last = 26 * (cells - 1);
+    memset(sheet + last, 0xff, 4);
+    call = plan_by(&asked, own.places, own.length, &ample);
+    expect(call.number == RIBALTZEN_BROKEN_RECORD && call.offset == last, "a length of FFFFFFFF in the last record");
+    give_back(&call);
+    expect(!expect_finder(&asked), "a sheet with such a length has no finder");
     free(own.places);
     free(sheet);
 }
