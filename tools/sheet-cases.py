@@ -173,6 +173,7 @@ def shape():
     case("kind 0 in the second record", 3, 26, text() + record(0, text()[6:]))
     for kind in range(1, 6):
         case(f"a head alone of kind {kind}", 3, 0, record(kind, b""))
+    case("a head alone before a text", 3, 0, record(2, b"") + text(), look_up=(2, 1, 6))
     case("a batch of 45 bytes", 3, 0, record(1, batch()[6:-1]))
     case("a batch of 47 bytes", 3, 0, record(1, batch()[6:] + b"\0"))
     case("a text of 25 bytes", 3, 0, record(2, text()[6:-1]))

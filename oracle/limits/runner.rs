@@ -85,6 +85,15 @@ fn run_small(cases: &[Small]) -> Option<String> {
     seen.map(|case| case.label.clone())
 }
 
+/// Whether a look-up without a finder, a kind and a number, finds the offset; FFFFFFFF stands for nothing, and kind 0 asks for none.
+fn finds(sheet: &[u8], [kind, number, offset]: [usize; 3]) -> bool {
+    match walk::find(sheet, kind as u16, number as u32) {
+        _ if kind == 0 => true,
+        walk::Found::At(at) => at == offset,
+        walk::Found::Nothing => offset == u32::MAX as usize,
+    }
+}
+
 /// The cases of crates/sheet_vectors: a head of 84 bytes, a prefix, a block that is repeated, a suffix.
 fn run_sheets(repository: &str) -> Option<String> {
     let bytes = fs::read(format!("{repository}/crates/sheet_vectors/stdin")).unwrap();
@@ -97,10 +106,11 @@ fn run_sheets(repository: &str) -> Option<String> {
         let end = suffix + field(5);
         let sheet = [&bytes[at + 84..block], &bytes[block..suffix].repeat(field(4)), &bytes[suffix..end]].concat();
         let (number, offset) = (field(0), field(1));
+        let look_up = [field(6), field(7), field(8)];
         let run = || {
             let mut place = 0;
             let answer = check_sheet_c::sheet_check(&sheet, &mut place);
-            (answer as usize, place) == (number, offset)
+            (answer as usize, place) == (number, offset) && finds(&sheet, look_up)
         };
         if sees(run) {
             return Some(label);
