@@ -1,7 +1,10 @@
 //! Faults made by hand: each question of document 01 at its edge, and the order in which they are asked.
 
+use std::collections::BTreeSet;
+
 use super::edges::worked_sheet;
 use super::encode::{batch_bytes, cell_bytes, node_bytes, query_bytes, reference_bytes, single, text_bytes};
+use super::full;
 use crate::sheet::{Batch, Cell, Node, Query, Source, Text};
 
 pub struct Fault {
@@ -68,20 +71,60 @@ pub fn all() -> Faults {
     queries(&mut faults);
     no_queries(&mut faults);
     deeper_queries(&mut faults);
+    wide_lengths(&mut faults);
     faults
 }
 
+/// Where a record stands among texts: how many are before it and behind it.
+#[derive(Clone, Copy, PartialEq)]
+struct Place {
+    name: &'static str,
+    before: usize,
+    behind: usize,
+}
+
+const FIRST: Place = Place { name: "first", before: 0, behind: 1 };
+const MIDDLE: Place = Place { name: "middle", before: 1, behind: 1 };
+const LAST: Place = Place { name: "last", before: 1, behind: 0 };
+
+/// The lengths of a first and of a last record.
+const LENGTHS: [u32; 12] = [0, 1, 5, 6, 7, 45, 46, 47, 1000, 0x7fff_ffff, 0x8000_0000, u32::MAX];
+
+/// A batch with another length.
+fn wrong_length(faults: &mut Faults, Place { name, before, behind }: Place, length: u32) {
+    let record = with(batch(), 0, &length.to_le_bytes());
+    let records = [vec![text(0); before], vec![record], vec![text(0); behind]].concat();
+    add(faults, format!("{name} length {length}"), &records);
+}
+
 fn lengths(faults: &mut Faults) {
-    for length in [0, 1, 5, 6, 7, 45, 46, 47, 1000, 0x7fff_ffff, 0x8000_0000, u32::MAX] {
-        let record = with(batch(), 0, &length.to_le_bytes());
-        add(faults, format!("first length {length}"), &[record.clone(), text(0)]);
-        add(faults, format!("last length {length}"), &[text(0), record]);
+    for length in LENGTHS {
+        wrong_length(faults, FIRST, length);
+        wrong_length(faults, LAST, length);
     }
     for tail in 1..=6 {
         add(faults, format!("{tail} zero bytes at the end"), &[text(0), vec![0; tail]]);
         add(faults, format!("{tail} bytes of a record at the end"), &[text(0), text(0)[..tail].to_vec()]);
     }
     add(faults, "last record cut by one byte", &[text(3), batch()[..45].to_vec()]);
+}
+
+/// Document 02's Paper 4: lengths that no record of a sheet has, and those with which the record's end, counted in so many bits, is
+/// the sheet's begin, the record itself, the next one, the sheet's end, or a byte past it.
+fn wide_lengths(faults: &mut Faults) {
+    for place in [FIRST, MIDDLE, LAST] {
+        let at = (place.before * text(0).len()) as u64;
+        let next = at + batch().len() as u64;
+        let end = next + (place.behind * text(0).len()) as u64;
+        let mut wide = BTreeSet::from(full::LENGTHS);
+        for bits in [16, 24, 31, 32] {
+            wide.extend([0, at, next, end, end + 1].into_iter().flat_map(|to| u32::try_from((1u64 << bits) + to - at)));
+        }
+        if place != MIDDLE {
+            wide.retain(|length| !LENGTHS.contains(length));
+        }
+        wide.into_iter().for_each(|length| wrong_length(faults, place, length));
+    }
 }
 
 fn sizes(faults: &mut Faults) {

@@ -1,10 +1,11 @@
 //! Large cases, kept as a name, a seed and a checksum: the limits of 10,000 and more records, sheets up to 16 MiB. Long
-//! lists and chains are made by `long`.
+//! lists and chains are made by `long`, sheets of 16,777,216 bytes by `full`.
 
 use super::boxes::grow_true_boxes;
 use super::edges::at_limits::{after_both, after_cells, after_objects, after_proxies, after_texts, grids, room_for_both_boxes};
 use super::edges::deep;
 use super::encode::{QUARTERS, grid, input, query_bytes, single};
+use super::full;
 use super::full_list;
 use super::long;
 use super::rng::Rng;
@@ -138,9 +139,9 @@ pub const LARGE: &[Large] = &[
     large("chain of references at depth 48", 4_096, |rng, n| long::chain_of_references(rng, n, 48)),
 ];
 
-/// These and the deep sheets for which plan_vectors has no room.
+/// These, the deep sheets for which plan_vectors has no room, and the full sheets.
 pub fn all() -> Vec<Large> {
-    [LARGE, &deep::large_cases()].concat()
+    [LARGE, &deep::large_cases(), &full::large_cases()].concat()
 }
 
 const WIDE: [f64; 4] = [-1e9, -1e9, 1e9, 1e9];
@@ -374,18 +375,11 @@ pub fn sheet_of_bytes(_: &mut Rng, length: u64) -> Vec<u8> {
     let first = sheet.text(1, 0, [10.0, 20.0]);
     sheet.cell(0, Some([0.0, 0.0, 100.0, 100.0])).texts.push(first);
     let mut bytes = query_bytes(&query);
-    let start = bytes.len();
+    let end = bytes.len() + length as usize;
     bytes.extend(super::encode::text_bytes(&sheet.texts[0], b""));
     bytes.extend(super::encode::cell_bytes(&sheet.cells[0]));
-    loop {
-        let left = length as usize - (bytes.len() - start);
-        // The last record takes what is left; the one before it leaves enough for a record.
-        let size = if left <= 538 { left } else { (left - 26).min(500) };
-        if left == 0 {
-            return bytes;
-        }
-        bytes.extend(super::encode::text_bytes(&sheet.texts[0], &vec![7; size - 26]));
-    }
+    full::fill(&mut bytes, end, 500);
+    bytes
 }
 
 fn descent(rng: &mut Rng, levels: u64) -> Vec<u8> {

@@ -7,6 +7,7 @@ pub mod edges;
 pub mod encode;
 pub mod families;
 pub mod faults;
+pub mod full;
 pub mod full_list;
 pub mod large;
 pub mod long;
