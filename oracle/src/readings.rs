@@ -1,9 +1,10 @@
 //! Document 01's worked example and "Readings at the edges", as its own sentences have them and document 02's Paper 3 changes
 //! them; what else that paper says; a sheet's finder, worked out by hand from Paper 1; a node grid that runs out, from Paper 5;
-//! proxies that did not fit, from Paper 8; and deep sheets, from Paper 13. The stored answers are the oracle's; these are the
-//! papers', and the oracle must meet them.
+//! proxies that did not fit, from Paper 8; deep sheets, from Paper 13; and lengths that no sheet has, from Paper 4. The stored answers
+//! are the oracle's; these are the papers', and the oracle must meet them.
 
 mod deep;
+mod lengths;
 
 use crate::answer::{Answer, Lent};
 use crate::events::{Limits, Lists, Record, Run, Settings, patterns};
@@ -143,11 +144,15 @@ fn opened(sheet: &[u8], places: usize, answer: (u32, u32, u64), list: &[u32]) ->
     (JUDGE.open)(sheet, &mut lent) == (Answer { number, offset, length }) && lent == list
 }
 
-/// The number that a plan with a finder has, on memory enough for two cells at depth 3.
-fn planned(sheet: &[u8], finder: &[u32], depth: u32) -> u32 {
+/// What a plan with a finder answers, on memory enough for two cells at depth 3.
+fn plan_answer(sheet: &[u8], finder: &[u32], depth: u32) -> Answer {
     let query = Query { depth, zoom: 1.0, ..Query::default() };
     let mut lent = Lent { finder: Some(finder.to_vec()), output: vec![9; 62], counts: vec![9; 6], marks: vec![9; 10] };
-    (JUDGE.call)(checked, sheet, &query, &mut lent).number
+    (JUDGE.call)(checked, sheet, &query, &mut lent)
+}
+
+fn planned(sheet: &[u8], finder: &[u32], depth: u32) -> u32 {
+    plan_answer(sheet, finder, depth).number
 }
 
 fn finder() -> [(&'static str, bool); 10] {
@@ -254,6 +259,7 @@ pub fn run() -> (usize, usize) {
     results.extend(node_grid());
     results.extend(dropped());
     results.extend(deep::readings());
+    results.extend(lengths::readings());
     for (label, shows) in READINGS {
         let edge = edges.iter().find(|edge| edge.label == *label).expect("a case of that label");
         let text = String::from_utf8(answer(&make_edge(edge)).text).unwrap();

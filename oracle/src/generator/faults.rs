@@ -110,7 +110,7 @@ fn lengths(faults: &mut Faults) {
 }
 
 /// Document 02's Paper 4: lengths that no record of a sheet has, and those with which the record's end, counted in so many bits, is
-/// the sheet's begin, the record itself, the next one, the sheet's end, or a byte past it.
+/// the sheet's start, the record itself, the next one, the sheet's end, or a byte past it.
 fn wide_lengths(faults: &mut Faults) {
     for place in [FIRST, MIDDLE, LAST] {
         let at = (place.before * text(0).len()) as u64;

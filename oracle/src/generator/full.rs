@@ -51,7 +51,7 @@ fn with_length(at: usize, length: u64) -> Vec<u8> {
 }
 
 /// Lengths for the record at an offset: those above, one that is a byte too long, and one with which the record's end is the sheet's
-/// begin in 32 bits.
+/// start in 32 bits.
 fn lengths(at: usize) -> BTreeSet<u32> {
     let back = (at as u32).wrapping_neg();
     LENGTHS.into_iter().chain([(BYTES - at) as u32 + 1]).chain((at > 0).then_some(back)).collect()
@@ -88,7 +88,7 @@ fn group(before: u32, text: u32) -> Vec<u8> {
     items.into_iter().chain(references).chain(sheet.cells.iter().map(cell_bytes)).flatten().collect()
 }
 
-/// A group at the begin and one at the end, whose last cell is the root: every look-up by walking goes through the texts between
+/// A group at the start and one at the end, whose last cell is the root: every look-up by walking goes through the texts between
 /// them, which have at most so many bytes.
 pub fn last_listed(most: usize) -> Vec<u8> {
     let mut bytes = query_bytes(&Query { root: 3, ..wide(4) });
