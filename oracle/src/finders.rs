@@ -37,7 +37,7 @@ pub enum Kind {
     Grown,
     /// Any places, or all zero.
     Random,
-    /// A place at the sheet's end or past it.
+    /// A place at the sheet's end or past it, or the own one with one bit more.
     Past,
     /// One place off by one.
     Off,
@@ -104,9 +104,10 @@ impl Maker<'_> {
             Kind::Cut => self.cut(rng),
             Kind::Grown => self.grown(rng),
             Kind::Random => self.random(rng),
-            Kind::Past => self.changed(rng, |rng, _| {
+            Kind::Past => self.changed(rng, |rng, place| {
                 let end = self.sheet.len() as u32;
-                rng.pick(&[end, end + 1, end + 4, 1 << 24, u32::MAX, u32::MAX - 5])
+                let [low, middle, high] = [16, 24, 31].map(|bit| place | 1 << bit);
+                rng.pick(&[end, end + 1, end + 4, 1 << 24, u32::MAX, u32::MAX - 5, low, middle, high])
             }),
             Kind::Off => self.changed(rng, |rng, place| if rng.chance(1, 2) { place.wrapping_sub(1) } else { place.wrapping_add(1) }),
         }

@@ -7,6 +7,7 @@ use std::collections::BTreeMap;
 
 use crate::answer::{Answer, Judge, Lent, PlanFn};
 use crate::finders::{KINDS, Maker, ROOMS, any_places, list};
+use crate::generator::full::last_listed;
 use crate::generator::rng::Rng;
 use crate::generator::{FAMILIES, Family, make};
 use crate::judge::program::split;
@@ -169,6 +170,19 @@ impl Run<'_> {
         }
     }
 
+    /// A sheet of 16,777,216 bytes, most records of which are as short as they can be: no fresh case has such offsets or so many
+    /// places.
+    fn largest_sheet(&mut self) {
+        let input = last_listed(26);
+        let (query, start) = split(&input).expect("a query");
+        let sheet = &input[start..];
+        let mut rng = Rng::new(0x1e47);
+        let stated = stated(sheet, &query);
+        let own = stated.own.clone().expect("a sound sheet");
+        self.open("the largest sheet", sheet, &stated, any_places(&mut rng, own.len()));
+        self.plan("the largest sheet", sheet, &query, &stated, Some(own), &mut rng);
+    }
+
     fn plan(&mut self, case: &str, sheet: &[u8], query: &Query, stated: &Stated, finder: Option<Vec<u32>>, rng: &mut Rng) {
         let entry = if finder.is_some() { Entry::PlanWithFinder } else { Entry::Plan };
         let (tape, counts, marks) = stated.needed.unwrap_or((60, 9, 9));
@@ -201,16 +215,17 @@ impl Lent {
     }
 }
 
-/// `count` cases from a seed on, family by family.
+/// `count` cases from a seed on, family by family, and the largest sheet.
 pub fn run(subject: &mut dyn Subject, seed: u64, count: u64) -> Tally {
     let mut run = Run { subject, tally: Tally::default(), foreign: Vec::new() };
     for (family, seed) in cases(seed, count) {
         run.case(family.name, seed, &make(family, seed));
     }
+    run.largest_sheet();
     run.tally
 }
 
-/// The same up to the first difference, without inputs of more than `most` bytes.
+/// The same up to the first difference, without fresh inputs of more than `most` bytes.
 pub fn run_to_difference(subject: &mut dyn Subject, seed: u64, count: u64, most: usize) -> Tally {
     let mut run = Run { subject, tally: Tally::default(), foreign: Vec::new() };
     for (family, seed) in cases(seed, count) {
@@ -219,9 +234,10 @@ pub fn run_to_difference(subject: &mut dyn Subject, seed: u64, count: u64, most:
             run.case(family.name, seed, &input);
         }
         if run.tally.differences > 0 {
-            break;
+            return run.tally;
         }
     }
+    run.largest_sheet();
     run.tally
 }
 

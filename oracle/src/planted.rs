@@ -18,7 +18,8 @@ const FUEL: u64 = 30_000_000;
 /// So many sheets of the brute force, or cases that are called, may pass before a mistake is seen.
 const SHEETS: u64 = 30_000;
 const CALLS: u64 = 6_000;
-/// Longer inputs are left out of these calls: they take most of the time, and memory is the same matter at any length.
+/// Longer inputs are left out of these calls, but for the largest sheet: they take most of the time, and memory is the same matter
+/// at any length.
 const MOST_INPUT: usize = 4_096;
 
 /// Runs with a mistake switched on; none if it panics or takes too many steps.

@@ -10,7 +10,7 @@ use crate::sheet::{Query, Sheet, Source, Text};
 
 const BYTES: usize = 16_777_216;
 const MIDDLE: usize = BYTES / 2;
-/// The least record, and the least of which a length can be read.
+/// Where the shortest record has room, and where only a head has.
 const LAST: usize = BYTES - 26;
 const LAST_HEAD: usize = BYTES - 6;
 

@@ -5,6 +5,7 @@ mod collapsing;
 mod counting;
 mod finding;
 mod judging;
+mod narrowing;
 mod placing;
 mod visiting;
 
@@ -44,7 +45,7 @@ pub struct Planted {
 }
 
 macro_rules! mistake {
-    ($name:literal, $place:ident, $seen:expr, $(($count:literal, $find:literal, $put:literal)),+ $(,)?) => {
+    ($name:literal, $place:ident, $seen:expr, $(($count:literal, $find:literal, $put:expr)),+ $(,)?) => {
         Planted {
             name: $name,
             place: Place::$place,
@@ -57,6 +58,6 @@ use mistake;
 
 pub fn all() -> impl Iterator<Item = &'static Planted> {
     let tables =
-        [placing::TABLE, collapsing::TABLE, counting::TABLE, visiting::TABLE, judging::TABLE, finding::TABLE];
+        [placing::TABLE, collapsing::TABLE, counting::TABLE, visiting::TABLE, judging::TABLE, finding::TABLE, narrowing::TABLE];
     tables.into_iter().flatten()
 }
