@@ -1,5 +1,6 @@
 //! Runs the planted mistakes: which stored case shows each, which memory run, which sheet of the brute force.
 
+use std::borrow::Cow;
 use std::panic::{AssertUnwindSafe, catch_unwind, set_hook, take_hook};
 use std::path::Path;
 
@@ -8,7 +9,8 @@ use crate::brute;
 use crate::checksum::fnv1a;
 use crate::edits::planted::{Place, Planted, Seen, all};
 use crate::events::{set_fuel, switch_mistake};
-use crate::generator::{FAMILIES, large, make, make_large};
+use crate::generator::large::{self, Large};
+use crate::generator::{FAMILIES, make, make_large};
 use crate::harness;
 use crate::stored::{Case, answer, is_small, read_cases, read_large};
 use crate::variants::{JUDGE, copies};
@@ -21,6 +23,9 @@ const CALLS: u64 = 6_000;
 /// Longer inputs are left out of these calls, but for the largest sheet: they take most of the time, and memory is the same matter
 /// at any length.
 const MOST_INPUT: usize = 4_096;
+
+/// A longer input is made again each time: 21 of them have 16 MiB.
+const MOST_KEPT: usize = 1 << 22;
 
 /// Runs with a mistake switched on; none if it panics or takes too many steps.
 fn with_mistake<T>(number: usize, run: impl FnOnce() -> T) -> Option<T> {
@@ -60,13 +65,16 @@ pub fn text_with(number: usize, mistake: &Planted, input: &[u8]) -> Option<Vec<u
 /// The stored cases with their answers.
 struct Store {
     small: Vec<Case>,
-    large: Vec<(Vec<u8>, u64)>,
+    large: Vec<(Large, Option<Vec<u8>>, u64)>,
 }
 
 impl Store {
     fn open(folder: &Path) -> Self {
-        let large = large::all().iter().map(make_large).zip(read_large(folder)).collect();
-        Self { small: read_cases(folder), large }
+        let large = large::all().into_iter().zip(read_large(folder)).map(|(case, sum)| {
+            let input = make_large(&case);
+            (case, (input.len() <= MOST_KEPT).then_some(input), sum)
+        });
+        Self { small: read_cases(folder), large: large.collect() }
     }
 
     /// How many small cases show the mistake, and else the first large one, where these are asked.
@@ -76,8 +84,9 @@ impl Store {
         if small > 0 || !ask_large {
             return (small, None);
         }
-        let large = self.large.iter().position(|(input, sum)| {
-            text_with(number, mistake, input).map(|text| fnv1a(&text)) != Some(*sum)
+        let large = self.large.iter().position(|(case, kept, sum)| {
+            let input = kept.as_deref().map_or_else(|| Cow::from(make_large(case)), Cow::from);
+            text_with(number, mistake, &input).map(|text| fnv1a(&text)) != Some(*sum)
         });
         (0, large)
     }
