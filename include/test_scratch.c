@@ -129,6 +129,23 @@ static void test_heads(void)
     expect(ribaltzen_scratch(overlapping, 11, 1, &counts, &marks) == 2, "a record is not shorter than its head");
 }
 
+/* Three bare heads, of which the first, the second or the last says a length that no sheet has. */
+static void test_long_lengths(void)
+{
+    static const uint32_t lengths[4] = { 0xffffffff, 0xfffffffe, 0x80000000, 0x01000001 };
+    size_t place, i, byte, counts, marks;
+    for (place = 0; place < 18; place += 6) {
+        for (i = 0; i < 4; i++) {
+            uint8_t sheet[18] = { 6, 0, 0, 0, 0, 0, 6, 0, 0, 0, 0, 0, 6, 0, 0, 0, 0, 0 };
+            expect(ribaltzen_scratch(sheet, 18, 1, &counts, &marks) == RIBALTZEN_PLANNED, "three bare heads");
+            for (byte = 0; byte < 4; byte++) {
+                sheet[place + byte] = (uint8_t)(lengths[i] >> (8 * byte));
+            }
+            expect(ribaltzen_scratch(sheet, 18, 1, &counts, &marks) == RIBALTZEN_BROKEN_RECORD, "a length past the end");
+        }
+    }
+}
+
 /* Changed and cut sheets, each in a block of its own that ends with it. */
 static void test_changed_sheets(void)
 {
@@ -164,5 +181,6 @@ void test_scratch(void)
     expect(RIBALTZEN_MOST_COUNTS == 196608 && RIBALTZEN_MOST_MARKS == 204800, "the greatest scratch");
     test_longest_sheet();
     test_heads();
+    test_long_lengths();
     test_changed_sheets();
 }

@@ -147,11 +147,17 @@ def frame():
 
 
 def long_lengths():
-    # What stands before such a record is found, and the record itself; what stands behind it is not.
-    for length in (0xFFFFFFFF, 0xFFFFFFFE, 0x80000000, 0x01000001):
+    # What stands before such a record is found, and the record itself; what stands behind it is not. Added in 32 bits the first two
+    # lead back by one byte and by two, where bytes of the length would be read as a kind.
+    for length, middle, last in (
+        (0xFFFFFFFF, (0x02FF, 0, NOTHING), (0x03FF, 0, NOTHING)),
+        (0xFFFFFFFE, (0xFFFF, 0, NOTHING), (0xFFFF, 0, NOTHING)),
+        (0x80000000, (2, 0, 46), (3, 0, 72)),
+        (0x01000001, (2, 0, 46), (2, 0, 46)),
+    ):
         case(f"length {length:08X} in the first record", 2, 0, batch(length=length) + text() + node(), look_up=(2, 0, NOTHING))
-        case(f"length {length:08X} in a middle record", 2, 46, batch() + text(length=length) + node(), look_up=(2, 0, 46))
-        case(f"length {length:08X} in the last record", 2, 72, batch() + text() + node(length=length), look_up=(2, 0, 46))
+        case(f"length {length:08X} in a middle record", 2, 46, batch() + text(length=length) + node(), look_up=middle)
+        case(f"length {length:08X} in the last record", 2, 72, batch() + text() + node(length=length), look_up=last)
     case("length FFFFFFFF in the only record", 2, 0, text(length=0xFFFFFFFF), look_up=(2, 0, 0))
 
     # Added to the offset in 32 bits these lead back to where a record stands: a walk that did so would find it once more, or the

@@ -120,9 +120,8 @@ fn a_length_just_past_the_end_or_right_in_its_low_bits_is_refused() {
     tried.expect_refused(last, own + (1 << 16));
 }
 
-/// Batches, texts and nodes in turn, and at the end a cell that lists the last of each.
-#[test]
-fn look_ups_lead_to_the_last_records() {
+/// A sheet of batches, texts and nodes in turn, and at the end a cell that lists the last of each; their number, and the cell's offset.
+fn with_the_last_listed() -> (Vec<u8>, u32, u32) {
     let shape = batch(1, 1, [10.0, 10.0, 50.0, 60.0]);
     let point = node(3, 9, &[[1.0, 2.0]]);
     let three = [&shape[..], &text(2, [5.0, 6.0], b""), &point].concat();
@@ -139,9 +138,13 @@ fn look_ups_lead_to_the_last_records() {
     ]
     .concat();
     assert_eq!(sheet.len(), MOST_SHEET);
+    (sheet, last, (MOST_SHEET - cell_length) as u32)
+}
 
+#[test]
+fn look_ups_lead_to_the_last_records() {
+    let (sheet, last, root) = with_the_last_listed();
     let finder = Finder::open(&sheet).unwrap();
-    let root = (MOST_SHEET - cell_length) as u32;
     assert_eq!(finder.places().last(), Some(&root));
     let (mut with, mut without) = (Buffers::new(), Buffers::new());
     let planned = with.plan_with_finder(&sheet, &finder, &QUERY).unwrap();

@@ -1,36 +1,27 @@
 -- Small sheets with the number and the offset that document 01 gives them, computed: one list, one theorem.
--- Numbers 1 and 7 need large sheets: `too-long` and `too-many-cells` of Answers say them of any such sheet. So do lengths that only a sum
--- of 32 bits would bring back into the sheet, with a sheet of any size.
+-- Numbers 1 and 7 need large sheets: `too-long` and `too-many-cells` of Answers say them of any such sheet.
 -- Assumes nothing.
-use mathlib.Core.Path.{_≡_, refl, sym, ap, subst, _∙_}
-use Prim.Native.Nat.{ℕ, _+_, _-_, _^_, _≤_, _<_}
-use native.Mathlib.Nat.{mod-eq-of-lt}
-use native.Mathlib.Omega.{arith}
+use mathlib.Core.Path.{_≡_, refl, sym, subst}
+use Prim.Native.Nat.{ℕ, _<_}
 use mathlib.Core.List.{List, [], _∷_, _++_}
 use mathlib.Core.Bool.{Bool, true}
 use lib.Dec.{eqb}
-use lib.ListN.{length, replicate, length-append, length-replicate}
+use lib.ListN.{replicate, length-replicate}
 use Rattle.fields.specs.Field.{uintAt, f64At, uintBytes, uint, recordBytes}
 use Rattle.floats.specs.Order.{isFinite}
-use Rattle.fields.proofs.Writing.{length-uintBytes}
-use Rattle.fields.proofs.ReadBack.{uintAt-appended}
-use Rattle.walk.specs.Offsets.{maxSheetBytes, lengthAt, offsetsIn, offsetsFrom, offsets}
-use Rattle.walk.proofs.Offsets.{offsets-within, offsets-more, offsets-end}
-use Rattle.walk.specs.Every.{All}
-use Rattle.walk.specs.Narrow.{longLengths}
+use Rattle.walk.specs.Offsets.{offsetsIn, offsetsFrom, offsets}
 use Rattle.walk.specs.Find.{ofKindIn}
 use Rattle.check_record.specs.Tests.{both, every}
 use Rattle.check_record.specs.Frame.{frameOk}
 use Rattle.check_record.specs.Shape.{listsAt, lengthOk, shapeOk}
 use Rattle.check_record.specs.Values.{zeroBox, sourceOk, gridOk, referenceOk, cellOk, valuesOk}
 use Rattle.check_record.specs.Floats.{finiteAt, floatsFrom, floatsCount, floatsOk}
-use Rattle.check_record.specs.Record.{recordRefusal, Right}
+use Rattle.check_record.specs.Record.{recordRefusal}
 use lib.Ieee.{ofBits, ofFields, odd}
 use Rattle.check_sheet.specs.declared.Checked.the-variants.{Sound, Refused}
 use Rattle.check_sheet.specs.Count.{countsOf, tallied}
 use Rattle.check_sheet.specs.Links.{sourceNamed, belowAt, listsNamed, linkOk}
 use Rattle.check_sheet.proofs.Answers.{too-long}
-use Rattle.check_sheet.proofs.Narrow.{long-length-is-refused}
 use Rattle.check_sheet.specs.Check.{firstNo, firstUnnamed, checkSheet, numberOf, offsetOf}
 
 -- ---- Records
@@ -58,7 +49,7 @@ abbrev notANumber : ℕ
 notANumber = 0x7ff8000000000000
 
 -- a text on layer 1 at (10, y)
-pub text : ℕ → List ℕ
+text : ℕ → List ℕ
 text y = recordBytes (uint 4 26 ∷ uint 2 2 ∷ uint 2 1 ∷ uint 2 0 ∷ uint 8 ten ∷ uint 8 y ∷ [])
 
 -- a cell with some flags, a box 0, 0, x, y and one text
@@ -139,64 +130,3 @@ worked-example = refl
 -- number 1: zeros, more than a sheet may have
 zeros-too-long : (n : ℕ) → 16777216 < n → checkSheet (replicate n 0) ≡ Refused 1 0
 zeros-too-long n h = too-long (replicate n 0) (subst (λ (m : ℕ). 16777216 < m) (sym (length-replicate n 0)) h)
-
--- ---- Lengths that reach past the end: document 02's paper 4
-
--- behind a text a length above that of any sheet, with any bytes behind it, up to a sheet of the largest size
-module _ (n : ℕ) (rest : List ℕ) (long : maxSheetBytes < n) (fits : n < 2 ^ 32) (room : length rest ≤ maxSheetBytes - 30) where
-  abbrev longSheet : List ℕ
-  longSheet = text twenty ++ (uintBytes 4 n ++ rest)
-
-  whole-length : length longSheet ≡ 30 + length rest
-  unfolding text recordBytes uintBytes
-  whole-length = omega (arith, length-append (uintBytes 4 n) rest, length-uintBytes 4 n, length-append (text twenty) (uintBytes 4 n ++ rest))
-
-  second-length : lengthAt longSheet 26 ≡ n
-  unfolding text recordBytes uintBytes
-  second-length = uintAt-appended 4 n (text twenty) rest ∙ mod-eq-of-lt fits
-
-  first-length : lengthAt longSheet 0 ≡ 26
-  unfolding text recordBytes uintBytes uintAt
-  first-length = refl
-
-  both-records : offsets longSheet ≡ 0 ∷ 26 ∷ []
-  both-records =
-      offsets-within longSheet (omega (arith, whole-length))
-      ∙ offsets-more longSheet 0 (omega (arith, whole-length)) (omega (arith, first-length))
-      ∙ ap (λ (m : ℕ). 0 ∷ offsetsFrom longSheet (0 + m)) first-length
-      ∙ ap (λ (xs : List ℕ). 0 ∷ xs)
-      (offsets-more longSheet 26 (omega (arith, whole-length)) (omega (arith, second-length))
-      ∙ ap (λ (xs : List ℕ). 26 ∷ xs) (offsets-end longSheet _ (omega (arith, whole-length, second-length))))
-
-  first-right : Right longSheet 0
-  unfolding text recordBytes uintBytes uintAt f64At isFinite ofBits ofFields odd both every lengthOk shapeOk valuesOk finiteAt floatsFrom floatsCount floatsOk
-  first-right =
-      record {
-        whole = record { head = omega (arith, first-length); within = omega (arith, first-length, whole-length) };
-        shape = refl;
-        values = refl;
-        floats = refl;
-      }
-
-  pub long-second : checkSheet longSheet ≡ Refused 2 26
-  long-second =
-      long-length-is-refused longSheet (0 ∷ []) [] 26 (omega (arith, whole-length)) both-records (first-right, tt) (omega (arith, whole-length, second-length))
-
--- so each of paper 4's four
-pub four-refused : (rest : List ℕ) → length rest ≤ maxSheetBytes - 30 → All (λ (n : ℕ). checkSheet (text twenty ++ (uintBytes 4 n ++ rest)) ≡ Refused 2 26) longLengths
-four-refused rest room = (
-  refused 0xffffffff (omega arith) (omega arith),
-  (
-    refused 0xfffffffe (omega arith) (omega arith),
-    (
-      refused 0x80000000 (omega arith) (omega arith),
-      (
-        refused 0x01000001 (omega arith) (omega arith),
-        tt,
-      ),
-    ),
-  ),
-)
-  where
-    refused : (n : ℕ) → maxSheetBytes < n → n < 2 ^ 32 → checkSheet (text twenty ++ (uintBytes 4 n ++ rest)) ≡ Refused 2 26
-    refused n long fits = long-second n rest long fits room

@@ -6,6 +6,7 @@
 --     Valid        the answer is sound just where the sheet is valid
 --     WellFormed   a valid sheet is well formed
 --     Narrow       paper 4's statement
+--     LongLengths  sheets of any size whose first or second record has a long length
 --     Examples     small sheets and their answers, computed
 --     Passed       the counts of the records before an offset
 --     Remaining    the records from an offset on, and what question 7 still asks of them
@@ -19,4 +20,5 @@ pub mod Numbered
 pub mod Valid
 pub mod WellFormed
 pub mod Narrow
+pub mod LongLengths
 pub mod Examples

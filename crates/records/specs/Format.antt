@@ -1,4 +1,4 @@
--- THE FORMAT OF A SHEET'S RECORDS: document 01's table of the five kinds, each a list of fields with their widths in bytes, and the limits of a sheet.
+-- THE FORMAT OF A SHEET'S RECORDS: document 01's table of the five kinds, each a list of fields with their widths in bytes, and the limits of a sheet but for its bytes (`walk`).
 -- The offset of a field is computed from its list and stands nowhere else. The code's constants (`format.rt`) are held to it by each reader's proof.
 -- Definitions only. Assumes nothing.
 use Prim.Native.Nat.{ℕ, _+_, _*_}

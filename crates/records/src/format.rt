@@ -1,4 +1,4 @@
-// The format of a sheet's records: the offset of each field of document 01's table, each where the field before it ends; and the limits of a sheet.
+// The format of a sheet's records: the offset of each field of document 01's table, each where the field before it ends; and the limits of a sheet but for its bytes (`walk`).
 // `specs/Format.antt` has the table; the proof of each reader holds these to it.
 
 use fields::HEAD;

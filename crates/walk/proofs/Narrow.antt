@@ -1,22 +1,22 @@
 -- Paper 4's statements of the walk, proved.
 -- Assumes nothing.
-use mathlib.Core.Path.{_≡_, sym, ap, subst, _∙_}
+use mathlib.Core.Path.{_≡_, sym, subst, _∙_}
 use Prim.Native.Nat.{ℕ, zero, suc, _+_, _≤_, _<_}
 use native.Mathlib.Omega.{arith}
 use mathlib.Core.List.{List, [], _∷_, _++_}
 use lib.ListN.{length}
 use Rattle.walk.specs.Offsets.{maxSheetBytes, lengthAt, offsetsFrom}
-use Rattle.walk.specs.Find.{findIn}
 use Rattle.walk.specs.Every.{All}
 use Rattle.walk.specs.Narrow.{OffsetsAreNarrow, ResultKeepsItsMeaning, ReachesPast, LongLengthEndsTheWalk, LongLengthsReachPast}
+use Rattle.walk.proofs.Finding.{find-start}
 use Rattle.walk.proofs.Offsets.{by-order, offsets-within, offsets-beyond, offsets-end, offsets-more, offsets-bad, offsets-some}
 
 -- ---- Where the records are
 
-module _ (s : List ℕ) (bound : ℕ) (most : length s ≤ bound) where
-  abbrev Below : ℕ → Type 0
-  Below at = at < bound
+abbrev Below : ℕ → Type 0
+Below at = at < maxSheetBytes
 
+module _ (s : List ℕ) (most : length s ≤ maxSheetBytes) where
   -- those from an offset on, behind which there are at most n bytes
   all-below : (n at : ℕ) → length s ≤ at + n → All Below (offsetsFrom s at)
   all-below zero at h = subst (All Below) (sym (offsets-end s at (omega arith))) tt
@@ -31,11 +31,11 @@ module _ (s : List ℕ) (bound : ℕ) (most : length s ≤ bound) where
 pub offsets-are-narrow : OffsetsAreNarrow
 offsets-are-narrow s =
     by-order (length s) maxSheetBytes
-    (λ h. subst (All (λ (at : ℕ). at < maxSheetBytes)) (sym (offsets-within s h)) (all-below s maxSheetBytes h (length s) 0 (omega arith)))
-    (λ h. subst (All (λ (at : ℕ). at < maxSheetBytes)) (sym (offsets-beyond s h)) tt)
+    (λ h. subst (All Below) (sym (offsets-within s h)) (all-below s h (length s) 0 (omega arith)))
+    (λ h. subst (All Below) (sym (offsets-beyond s h)) tt)
 
 pub result-keeps-its-meaning : ResultKeepsItsMeaning
-result-keeps-its-meaning s kind n h = ap (findIn s kind n) (offsets-within s h)
+result-keeps-its-meaning s kind n h = sym (find-start s kind n h)
 
 -- ---- A record that reaches past the end
 

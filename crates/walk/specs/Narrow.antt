@@ -24,10 +24,10 @@ ReachesPast s at = length s < at + lengthAt s at
 abbrev pub LongLengthEndsTheWalk : Type 0
 LongLengthEndsTheWalk = (s before after : List ℕ) (at : ℕ) → offsets s ≡ before ++ at ∷ after → ReachesPast s at → after ≡ []
 
--- FFFFFFFF and three more: one less, the least that a sum of 31 bits cannot hold, and one more than a sheet may have bytes
+-- FFFFFFFF and three more: one less, the least that 31 bits cannot hold, and one more than a sheet may have bytes
 abbrev pub longLengths : List ℕ
 longLengths = 0xffffffff ∷ 0xfffffffe ∷ 0x80000000 ∷ 0x01000001 ∷ []
 
--- each of them reaches past the end at the first, a middle and the last record, of a sheet of the largest size too
+-- each of them reaches past the end at any offset, so at the first, a middle and the last record, of a sheet of the largest size too
 abbrev pub LongLengthsReachPast : Type 0
 LongLengthsReachPast = (s : List ℕ) (at : ℕ) → length s ≤ maxSheetBytes → All (λ (n : ℕ). lengthAt s at ≡ n → ReachesPast s at) longLengths

@@ -34,8 +34,8 @@ offsetsIn (suc steps) s at =
 unfoldable pub offsetsFrom : List ℕ → ℕ → List ℕ
 offsetsFrom s at = offsetsIn (length s) s at
 
--- The offsets of the records of a sheet. More bytes than a sheet may have are no sheet and have no records, which question 1 refuses:
--- so a walk over any bytes needs no offset of more than 32 bits.
+-- The offsets of the records of a sheet. More bytes than a sheet may have are no sheet (question 1 refuses them) and have no records:
+-- so no walk needs an offset of more than 32 bits.
 unfoldable pub offsets : List ℕ → List ℕ
 offsets s = cond (leb (length s) maxSheetBytes) (offsetsFrom s 0) []
 
