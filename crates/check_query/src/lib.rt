@@ -1,4 +1,7 @@
 // Questions 8 to 11 of document 01, asked of a query and of the lengths of the lent scratch. Any query and any lengths get an answer.
+
+#![tactic(auto)]
+
 ghost use Rattle.std.specs.Prelude.{◌≡◌};
 ghost use Rattle.plan_rules.specs.Questions.{view_ok, zoom_ok, has_scratch, query_refusal};
 

@@ -1,4 +1,7 @@
 // Questions 2 to 5 of document 01, asked of the record at an offset of a sheet.
+
+#![tactic(auto)]
+
 ghost use Rattle.std.specs.Prelude.{◌≡◌};
 ghost use Rattle.check_record.specs.Record.{record_refusal};
 

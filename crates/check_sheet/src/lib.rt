@@ -1,4 +1,7 @@
 // Whether a sheet can be planned: questions 1 to 7 of document 01. Nothing is written.
+
+#![tactic(auto)]
+
 ghost use Rattle.std.specs.Prelude.{◌≡◌};
 ghost use Rattle.check_sheet.specs.Check.{verdict, verdict_of};
 

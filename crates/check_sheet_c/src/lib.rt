@@ -1,4 +1,7 @@
 // Questions 1 to 7 for C and Rust to call, under the contract of `check_sheet`. `bench/sheet` measures it.
+
+#![tactic(auto)]
+
 ghost use Rattle.std.specs.Prelude.{◌≡◌};
 ghost use Rattle.check_sheet.specs.Check.{verdict_of};
 

@@ -1,4 +1,7 @@
 // `visit_cell` up to its loops: outside the view, boxed for a limit or a circle, or opened.
+
+#![tactic(auto)]
+
 ghost use Rattle.std.specs.Prelude.{◌≡◌, false};
 ghost use Rattle.enter_cell.specs.Left.{EntersCell};
 

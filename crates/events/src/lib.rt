@@ -1,5 +1,8 @@
 // What happens in a plan: one function for each event that it counts or lists, and `add_load`, which lists a proxy or drops it.
 // Every function is total. What it leaves of the plan and of the output is what the rules' definition of the same name says.
+
+#![tactic(auto)]
+
 mod counted; // what an event adds to the plan, and its record on the tape
 mod load; // proxies
 

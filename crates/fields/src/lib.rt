@@ -1,6 +1,9 @@
 // Little-endian fields of a slice of bytes: u16, u32, u64 and f64, read at an offset and written at one.
 // A function whose name ends in `_within` requires that the field lies wholly inside, and tests nothing.
 // The others are total: a byte past the end is read as 0 and is not written.
+
+#![tactic(auto)]
+
 ghost use Rattle.std.specs.Prelude.{◌≡◌, ◌+◌, ◌≤◌, length};
 ghost use Rattle.std.proofs.lemmas.List.Edits.{sets};
 ghost use Rattle.fields.specs.Field.{uint_at, uint_bytes, f64_at, f64_bytes};

@@ -1,4 +1,7 @@
 // The finder of a sheet: the offset of every record, by kind and then by number, and whether a lent list is the sheet's.
+
+#![tactic(auto)]
+
 ghost use Rattle.std.specs.Prelude.{◌≡◌};
 ghost use Rattle.check_sheet.specs.Count.{counts_of};
 ghost use Rattle.check_sheet.specs.Valid.{Valid};

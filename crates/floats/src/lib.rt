@@ -3,6 +3,8 @@
 // of the toolchain's model of IEEE 754, `lib.Ieee`; those that it lacks stand in specs/ (`Order`). The
 // operations that round are the crates `rounding` and `fused`.
 
+#![tactic(auto)]
+
 // Least, greatest, absolute value, finiteness.
 pub mod order;
 

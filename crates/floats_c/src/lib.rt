@@ -1,6 +1,9 @@
 // The fused operation, the two conversions and the absolute value for C and Rust to call, under the
 // contracts of `fused`, `rounding` and `floats`. `bench/floats` measures them and compares them with the
 // hardware.
+
+#![tactic(auto)]
+
 ghost use Rattle.std.specs.Prelude.{◌≡◌, pos};
 ghost use Rattle.std.specs.Float.{binary32, binary64};
 ghost use Rattle.std.specs.Float.Ieee.{of_int};

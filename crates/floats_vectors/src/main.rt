@@ -2,6 +2,9 @@
 // cases, and patterns whose answers the hardware gave. Each group is a file of data/, named with its
 // origin in its first line. The program says for each group, and in all, how many cases passed and how
 // many failed.
+
+#![tactic(auto)]
+
 mod cases;
 mod single;
 mod text;

@@ -5,6 +5,8 @@
 // It is worked on the sign, exponent and fraction fields of the u64 patterns, by shifts and masks, and
 // rounded by the step of the crate `rounding`.
 
+#![tactic(auto)]
+
 // x * y + z, rounded once.
 mod multiply_add;
 

@@ -1,6 +1,9 @@
 // The grid of a reference, step by step as the Rust has it: grid.rs's fields, and `grid_count`, `grid_member_transform` and
 // `reference_bbox` of bevy_scene.rs.
 // Every function is total, and equals a definition of specs/ over the values of IEEE 754, NaN and infinities included.
+
+#![tactic(auto)]
+
 ghost use Rattle.std.specs.Prelude.{◌≡◌};
 ghost use Rattle.grid.specs.Grid.{grid_count, offset, rotated, y_axis, grid_member_transform, member_bbox, corners_to, reference_bbox};
 

@@ -1,4 +1,7 @@
 // The limits of a plan, each in this one place, the tests against them, and the sum that stops at the largest total.
+
+#![tactic(auto)]
+
 ghost use Rattle.std.specs.Prelude.{◌≡◌, List, ℕ};
 ghost use Rattle.plan_rules.specs.Event.{◌⊞◌};
 ghost use Rattle.plan_rules.specs.World.{detail_cells_full, detail_budget_exhausted};

@@ -1,5 +1,8 @@
 // The look-up by number: the planner finds every record here, in a finder where one is lent and else by the walk.
 // A finder is a list of offsets, by kind and then by number. Any list is answered; only the sheet's own gives the sheet's records.
+
+#![tactic(auto)]
+
 ghost use Rattle.std.specs.Prelude.{◌≡◌, ◌≤◌};
 ghost use Rattle.look_up.specs.Places.{count_for, start_for};
 ghost use Rattle.look_up.specs.Look.{look_in, look};

@@ -1,4 +1,7 @@
 // `visit_reference` up to its members: without a box, culled, boxed for a limit, or to be counted; and whether a box on the screen collapses.
+
+#![tactic(auto)]
+
 ghost use Rattle.std.specs.Prelude.{◌≡◌, false};
 ghost use Rattle.open_reference.specs.Left.{OpensReference, reference_test};
 

@@ -1,4 +1,7 @@
 // Opening a sheet: questions 1 to 7, then number 13 where the lent list is short, and else the sheet's finder in the list.
+
+#![tactic(auto)]
+
 ghost use Rattle.std.specs.Prelude.{◌≡◌, ◌++◌, ◌≤◌, length, drop, replicate};
 ghost use Rattle.check_sheet.specs.Count.{counts_of};
 ghost use Rattle.check_sheet.specs.Valid.{Valid};

@@ -11,6 +11,9 @@
 //     unreadable                         the input could not be read to its end
 // A float is printed as the 16 hexadecimal digits of its pattern. Where a read or a write fails, standard error says why; a failed
 // write ends the output.
+
+#![tactic(auto)]
+
 ghost use Rattle.std.specs.Prelude.{◌≤◌, length};
 ghost use Rattle.plan_text.specs.Written.{line_room};
 

@@ -1,4 +1,7 @@
 // What the program `plan` answers to an input, and the text of that answer.
+
+#![tactic(auto)]
+
 mod opened; // a plan with a finder that is opened for it
 mod input; // the answer to an input
 mod part; // the text of an answer, a part at a time

@@ -1,4 +1,7 @@
 // The query: the first record of the input, of kind 20, with its hidden layers.
+
+#![tactic(auto)]
+
 ghost use Rattle.std.specs.Prelude.{◌≡◌, ◌+◌, ◌*◌, ◌≤◌, ◌<◌, length};
 ghost use Rattle.std.proofs.lemmas.List.Edits.{sets};
 ghost use Rattle.plan_query.specs.Query.{query_length, whole_query, options_at, layers_from, read_query, sheet_at};

@@ -1,6 +1,9 @@
 // What a plan passes on by value: the totals with the tape's end, the query without its hidden layers, what does not change during a plan,
 // why a box was made, and the answer of a call.
 // No code: the rules themselves are in specs/.
+
+#![tactic(auto)]
+
 use check_sheet::Counts;
 use geometry::bbox::WorldBBox;
 

@@ -5,6 +5,9 @@
 // The lent memory is not cleared between inputs: no answer depends on what it held. The finder has 8 places: sheets with more records
 // are planned by walking, the others with it.
 // A case: length of the input, length of the text (4 bytes each), the input, the text.
+
+#![tactic(auto)]
+
 ghost use Rattle.std.specs.Prelude.{◌≡◌, ◌+◌, ◌<◌, ◌≤◌, min, true, length};
 ghost use Rattle.streams.specs.Moving.{Within as ReadWithin};
 ghost use Rattle.plan_text.specs.Written.{line_room};

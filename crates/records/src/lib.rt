@@ -1,6 +1,9 @@
 // The records of a sheet: their types, under the Rust's names, and the readers at a record's offset.
 // A reader whose name ends in `_within` requires that the record's fields lie within the bytes, and tests nothing.
 // The others are total: what lies past the end of the bytes is read as zeros.
+
+#![tactic(auto)]
+
 use geometry::bbox::{Bounds, WorldBBox};
 use geometry::placement::DVec2;
 use grid::Grid;

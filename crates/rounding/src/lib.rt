@@ -7,6 +7,8 @@
 // masks, and rounded by one step that serves both widths. Normal f32s and counts below 2^32 have a
 // shorter way.
 
+#![tactic(auto)]
+
 // f64 to f32, and u64 to f32: to nearest, ties to even.
 mod convert;
 

@@ -1,4 +1,7 @@
 // The lent scratch: its places, layer by layer, the sets and the map of the Rust's planner that stand in them, and the zeroing of lent memory.
+
+#![tactic(auto)]
+
 mod places; // the places, their readers and writers, and how many a plan names
 mod memory; // `cell_stack`, `complexity_stack` and `complexity_cache`
 mod clearing; // lent memory zeroed

@@ -1,6 +1,9 @@
 // Sizes on the screen, in f32, and the tests that are made of them, step by step as the Rust has them: `screen_size` and
 // `reference_screen_size`, the tests of `visit_reference` and `push_geometry` in bevy_scene.rs, and drawable.rs's `should_collapse_reference`.
 // Every function is total, and equals a definition of specs/ over the values of IEEE 754, NaN and infinities included.
+
+#![tactic(auto)]
+
 ghost use Rattle.std.specs.Prelude.{◌≡◌};
 ghost use Rattle.screen.specs.Screen.{wide_side, screen_size, reference_screen_size, is_subpixel, average_area_within, is_dense, is_dense_batch, collapse_test, collapses};
 

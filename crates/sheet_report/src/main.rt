@@ -4,6 +4,9 @@
 //     too long                                      the input does not fit the program's buffer
 //     unreadable                                    the input could not be read to its end
 // Where a read or a write fails, standard error says why; a failed write ends the output.
+
+#![tactic(auto)]
+
 use check_sheet::{Checked, Counts};
 use libc::STDIN_FILENO;
 use streams::Input;

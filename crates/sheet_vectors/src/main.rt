@@ -3,6 +3,9 @@
 // A case's head has 84 bytes: expected number, expected offset, length of the prefix, length of the block, repeats of the
 // block, length of the suffix, kind and number to look up, expected offset of that (4 bytes each), and a label of 48.
 // The kind is 0 where nothing is looked up.
+
+#![tactic(auto)]
+
 ghost use Rattle.std.specs.Prelude.{◌<◌, length};
 
 use check_sheet::Checked;

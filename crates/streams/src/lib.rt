@@ -3,6 +3,9 @@
 // interrupted call is not the end; that only the end makes an input whole (`input_of`), and a full buffer never does; that a read leaves
 // what was read before; and that `print` never answers true where what stood before was not written. That the loops hand on what each
 // call meant is to be read in them.
+
+#![tactic(auto)]
+
 mod input; // an input, read to its end
 mod moved; // what an answer of the system means
 mod output; // an output, written whole

@@ -1,5 +1,8 @@
 // The tape: one writer for each kind of record, which writes the whole record or nothing, and answers the tape's new end.
 // A record that does not fit leaves the output as it was; the tape's end grows all the same.
+
+#![tactic(auto)]
+
 ghost use Rattle.std.specs.Prelude.{◌≡◌, ◌+◌, ◌≤◌, leb, length};
 ghost use Rattle.std.proofs.lemmas.List.Edits.{sets};
 ghost use Rattle.fields.specs.Field.{widths, record_bytes};

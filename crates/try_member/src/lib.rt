@@ -1,4 +1,7 @@
 // One member of a reference: up to the visit of its source, and where a limit stopped that visit.
+
+#![tactic(auto)]
+
 ghost use Rattle.std.specs.Prelude.{◌<◌};
 ghost use Rattle.grid.specs.Grid.{grid_count};
 ghost use Rattle.plan_rules.specs.OnTape.{Leaves, load_member};

@@ -1,6 +1,9 @@
 // Draw units over the lent counts and marks: `reference_draw_units`, `source_draw_units` and `cell_draw_units`, in a cycle of calls with the look-up of a reference by number.
 // `kinds` is how many records of each kind the sheet has: where its finder has each kind, and how wide a layer of the scratch is.
 // Depth and call position fall: a reference asks its source one depth below, and a source asks a cell, which asks references, at its own depth.
+
+#![tactic(auto)]
+
 ghost use Rattle.std.specs.Prelude.{◌≡◌};
 ghost use Rattle.look_up.specs.Look.{sheet_with};
 ghost use Rattle.plan_rules.specs.DrawUnits.{counted, reference_draw_units, numbered_draw_units, source_draw_units, cell_draw_units};

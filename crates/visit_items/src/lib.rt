@@ -1,4 +1,7 @@
 // Lists of batches, texts and nodes: one number that a reference places, and a cell's lists. Those of a cell go in one call, so that the visit of a cell has one loop left: that over its references.
+
+#![tactic(auto)]
+
 ghost use Rattle.visit_items.specs.Lists.{LeavesReferences};
 
 use crate::cell::{cell_geometries, cell_nodes, cell_texts};

@@ -1,6 +1,9 @@
 // The visits: `visit_cell`, `visit_reference` and `visit_source` of bevy_scene.rs, three functions in a cycle of calls.
 // Depth and call position fall: a reference visits its source one depth below, a source a cell or a reference, and a cell its references, at its own depth.
 // Each is total. What it leaves of the plan, the output and the scratch is what the rules' definition of the same name says.
+
+#![tactic(auto)]
+
 ghost use Rattle.std.specs.Prelude.{◌≡◌};
 ghost use Rattle.plan_rules.specs.World.{flow};
 ghost use Rattle.plan_rules.specs.OnTape.{given, lent, visit_cell, visit_reference, visit_source};

@@ -1,4 +1,7 @@
 // The walk over the records of a sheet, from the start. Offsets have 32 bits inside: a sheet has at most 16,777,216 bytes.
+
+#![tactic(auto)]
+
 ghost use Rattle.std.specs.Prelude.{◌≡◌, ◌+◌, ◌≤◌, length};
 ghost use Rattle.walk.specs.Offsets.{max_sheet_bytes, length_at, kind_at, Whole};
 ghost use Rattle.walk.specs.Find.{find};

@@ -9,8 +9,7 @@ use lib.Ieee.{binary64, nan_bits, of_bits}
 use lib.Ieee.Bits.{is_true, nan_bits_is, nan_bits_above}
 use Rattle.floats.proofs.Nans.{nan_of_test, zero_by_zero}
 use borrow.Author.Rules.{rules}
-use Rattle.floats.proofs.pattern.f64_from_bits.Statement.{statement}
-use Rattle.floats.proofs.pattern.f64_from_bits.Tie as tie
+use Rattle.floats.proofs.pattern.f64_from_bits.Goals as goal
 
 number : (n : ℕ) → n % 2 ^ 63 ≤ 0x7ff0_0000_0000_0000 → T (not (nan_bits binary64 n))
 number n h = subst (λ (b : Bool). T (not b)) (sym (nan_bits_above binary64 n)) (le→nltb 0x7ff0_0000_0000_0000 (n % 2 ^ 63) h)
@@ -18,16 +17,13 @@ number n h = subst (λ (b : Bool). T (not b)) (sym (nan_bits_above binary64 n)) 
 not_number : (n : ℕ) → 0x7ff0_0000_0000_0000 < n % 2 ^ 63 → nan_bits binary64 n ≡ true
 not_number n h = nan_bits_above binary64 n ∙ is_true _ (lt→ltb 0x7ff0_0000_0000_0000 (n % 2 ^ 63) h)
 
-float_from_bits_result : tie.Need-float-from-bits-result
-float_from_bits_result c =
-    let n = c.before.args.n in
-    number n (subst (λ (x : ℕ). x ≤ 0x7ff0_0000_0000_0000) (and_mask n 63) c.if1.true)
+pub float_from_bits-result : goal.float_from_bits-result
+float_from_bits-result c =
+    let n = c.args.n in
+    number n (subst (λ (x : ℕ). x ≤ 0x7ff0_0000_0000_0000) (and_mask n 63) c.if-n-le9218868437227405312.true)
 
-returns_2 : tie.Need-returns-2
-returns_2 c =
-    let n = c.before.args.n in
+pub returns-else-n-le9218868437227405312 : goal.returns-else-n-le9218868437227405312
+returns-else-n-le9218868437227405312 c =
+    let n = c.args.n in
     zero_by_zero binary64
-    ∙ sym (nan_of_test (of_bits binary64 n) (sym (nan_bits_is binary64 n) ∙ not_number n (subst (λ (x : ℕ). 0x7ff0_0000_0000_0000 < x) (and_mask n 63) c.if1.false)))
-
-pub f64_from_bits_spec : {M : Type 1} → statement M
-f64_from_bits_spec = tie.close (tie.spec float_from_bits_result (λ c. search rules) returns_2)
+    ∙ sym (nan_of_test (of_bits binary64 n) (sym (nan_bits_is binary64 n) ∙ not_number n (subst (λ (x : ℕ). 0x7ff0_0000_0000_0000 < x) (and_mask n 63) c.if-n-le9218868437227405312.false)))

@@ -6,8 +6,7 @@ use mathlib.Core.Bool.{Bool, true, false, not, cond}
 use lib.Dec.{eqb, leb}
 use lib.Ieee.{Float, nan, inf, binary64, of_bits, of_fields, odd, prec, low, hid, ones, top}
 use Rattle.floats.specs.Order.{is_finite}
-use Rattle.floats.proofs.pattern.is_finite_pattern.Statement.{statement}
-use Rattle.floats.proofs.pattern.is_finite_pattern.Tie as tie
+use Rattle.floats.proofs.pattern.is_finite_pattern.Goals as goal
 
 odd_finite : (d : ℕ) (s : Bool) (q k l : ℕ) → is_finite (odd d s q k l) ≡ true
 unfolding odd is_finite
@@ -30,8 +29,5 @@ pattern_finite : (n : ℕ) → is_finite (of_bits binary64 n) ≡ not (eqb (n % 
 unfolding of_bits
 pattern_finite n = fields_finite (leb (top binary64) n) (n % top binary64 / hid binary64) (n % hid binary64)
 
-returns : tie.Need-returns
+pub returns : goal.returns
 returns c = sym (pattern_finite c.args.n)
-
-pub is_finite_pattern_spec : {M : Type 1} → statement M
-is_finite_pattern_spec = tie.close (tie.spec returns)

@@ -10,8 +10,7 @@ use lib.Ieee.Bits.{of_bits-to_bits, nan_bits_is}
 use Rattle.floats.specs.Order.{abs}
 use Rattle.floats.proofs.Nans.{nan_of_differs, number_of_equal}
 use Rattle.floats.proofs.order.SignBit.{abs_of_pattern}
-use Rattle.floats.proofs.order.f64_abs.Statement.{statement}
-use Rattle.floats.proofs.order.f64_abs.Tie as tie
+use Rattle.floats.proofs.order.f64_abs.Goals as goal
 
 abs_positive : (x : Float) → lt (fin false 0 (pos 0)) x ≡ true → x ≡ abs x
 unfolding lt abs
@@ -36,26 +35,23 @@ masked : (x : Float) → T (fits binary64 x) → of_bits binary64 (bit_and (to_b
 masked x F = ap (of_bits binary64) (and_mask (to_bits binary64 x) 63) ∙ abs_of_pattern binary64 (to_bits binary64 x) ∙ ap abs (of_bits-to_bits binary64 x F)
 
 -- what owning an `f64` tells: the format holds it
-held : (s : tie.Start) → T (fits binary64 s.args.x)
-held s = subst T (sym s.well-formed.0.1) tt
+held : (c : goal.Else-x-2) → T (fits binary64 c.args.x)
+held c = subst T (sym c.well_formed.0.1) tt
 
-returns : tie.Need-returns
+pub returns-then-x : goal.returns-then-x
 unfolding of_bits
-returns c = abs_positive c.before.args.x c.if1.true
+returns-then-x c = abs_positive c.args.x c.if-x.true
 
-returns_2 : tie.Need-returns-2
-returns_2 c = abs_nan c.before.before.args.x (nan_of_differs c.before.before.args.x c.if2.true)
+pub returns-then-x-2 : goal.returns-then-x-2
+returns-then-x-2 c = abs_nan c.args.x (nan_of_differs c.args.x c.if-x-2.true)
 
-float_to_bits_result : tie.Need-float-to-bits-result
-float_to_bits_result c = number_of_equal c.before.before.args.x c.if2.false
+pub float_to_bits-result : goal.float_to_bits-result
+float_to_bits-result c = number_of_equal c.args.x c.if-x-2.false
 
-float_from_bits_result : tie.Need-float-from-bits-result
-float_from_bits_result c =
-    let x = c.before.before.args.x in
-    subst (λ (b : Bool). T (not b)) (sym (nan_bits_is binary64 _ ∙ ap is_nan (masked x (held c.before.before)) ∙ abs_number x)) (number_of_equal x c.if2.false)
+pub float_from_bits-result : goal.float_from_bits-result
+float_from_bits-result c =
+    let x = c.args.x in
+    subst (λ (b : Bool). T (not b)) (sym (nan_bits_is binary64 _ ∙ ap is_nan (masked x (held c)) ∙ abs_number x)) (number_of_equal x c.if-x-2.false)
 
-returns_3 : tie.Need-returns-3
-returns_3 c = masked c.before.before.args.x (held c.before.before)
-
-pub f64_abs_spec : {M : Type 1} → statement M
-f64_abs_spec = tie.close (tie.spec returns returns_2 float_to_bits_result float_from_bits_result returns_3)
+pub returns : goal.returns
+returns c = masked c.args.x (held c)
