@@ -18,7 +18,7 @@ TOP = pathlib.Path(sys.argv[1] if len(sys.argv) > 1 else pathlib.Path(__file__).
 OWN = {p.name for p in (TOP / "crates").iterdir() if p.is_dir()}
 PART = r"[^\s(){}\[\];.,:@\"«»`]+"
 DECLARED = re.compile(rf"^(?:module _ .*|(?:(?:unfoldable|abbrev|pub|data|record|ruleset|ghost) +)*({PART})(?: +[^:\n]*?)? [:=](?: |$))")
-INSIDE = re.compile(rf"^  (?:(?:unfoldable|abbrev|pub) +)*({PART})(?: +[^:\n]*?)? :(?: |$)")
+INSIDE = re.compile(rf"^(?:  )+(?:(?:unfoldable|abbrev|pub|data|record) +)*({PART})(?: +[^:\n]*?)? :(?: |$)")
 USE = re.compile(rf"^ *(?:ghost )?(?:pub )?use ((?:{PART}\.)*{PART})(?:\.\{{([^}}]*)\}}| as ({PART}))?;?", re.M)
 WORD = re.compile(rf"(?:{PART}\.)*{PART}")
 GOAL = re.compile(r" : (?:tie\.|statement\b|goal\.)")

@@ -1,5 +1,5 @@
 -- What a sheet has at a number is what is read where the look-up finds it: for any look-up, and for the walk.
--- From `look 4 n ≡ At at` the law `item-read-by` gives what the sheet by that look-up has at n, `some (reference_at s at)`, and from
+-- From `look 4 n ≡ At at` the law `item_read_by` gives what the sheet by that look-up has at n, `some (reference_at s at)`, and from
 -- `look 4 n ≡ Nothing` it gives `none`. Proofs about code cite it through `look_up`.
 -- Assumes nothing.
 use mathlib.Core.Path.{◌≡◌, refl, sym, ap, ◌∙◌}
@@ -27,17 +27,17 @@ module _ (look : ℕ → ℕ → Found) where
   by_kind cells s n = refl
 
   module _ (kind : Kind) (s : List ℕ) (n : ℕ) where
-    pub item-read-by : {f : Found} → look (kind_number kind) n ≡ f → item kind (sheet_by look s) n ≡ read (item_at kind s) f
-    item-read-by e = by_kind kind s n ∙ ap (read (item_at kind s)) e
+    pub item_read_by : {f : Found} → look (kind_number kind) n ≡ f → item kind (sheet_by look s) n ≡ read (item_at kind s) f
+    item_read_by e = by_kind kind s n ∙ ap (read (item_at kind s)) e
 
     -- what is there is found
     module _ (x : Item kind) where
-      by-found : (f : Found) → look (kind_number kind) n ≡ f → read (item_at kind s) f ≡ some x → Located look kind s n x
-      by-found (At at) e h = let q : x ≡ item_at kind s at = cc in record { at = at; found = e; same = q }
-      by-found Nothing e h = let z : ◌≡◌ {A = ℕ} 0 1 = cc in absurd (omega arith)
+      by_found : (f : Found) → look (kind_number kind) n ≡ f → read (item_at kind s) f ≡ some x → Located look kind s n x
+      by_found (At at) e h = let q : x ≡ item_at kind s at = cc in record { at = at; found = e; same = q }
+      by_found Nothing e h = let z : ◌≡◌ {A = ℕ} 0 1 = cc in absurd (omega arith)
 
-      pub item-located-by : item kind (sheet_by look s) n ≡ some x → Located look kind s n x
-      item-located-by e = by-found (look (kind_number kind) n) refl (sym (by_kind kind s n) ∙ e)
+      pub item_located_by : item kind (sheet_by look s) n ≡ some x → Located look kind s n x
+      item_located_by e = by_found (look (kind_number kind) n) refl (sym (by_kind kind s n) ∙ e)
 
 -- look-ups that agree on the five kinds give one sheet
 pub same_sheet : (look other : ℕ → ℕ → Found) (s : List ℕ) → ((kind : Kind) (n : ℕ) → look (kind_number kind) n ≡ other (kind_number kind) n) → sheet_by look s ≡ sheet_by other s
@@ -56,16 +56,16 @@ same_sheet look other s e =
 module _ (kind : Kind) (s : List ℕ) (n : ℕ) where
   item_read : {f : Found} → find s (kind_number kind) n ≡ f → item kind (sheet_of s) n ≡ read (item_at kind s) f
   unfolding sheet_of
-  item_read e = item-read-by (find s) kind s n e
+  item_read e = item_read_by (find s) kind s n e
 
   -- numbers below the count of their kind are there, and no others
   pub item_some : n < count_of s (kind_number kind) → Exists (item kind (sheet_of s) n)
   item_some h = let place = find_some s (kind_number kind) n h in (item_at kind s place.0, item_read place.1)
 
   module _ (x : Item kind) where
-    pub item-located : item kind (sheet_of s) n ≡ some x → Located (find s) kind s n x
+    pub item_located : item kind (sheet_of s) n ≡ some x → Located (find s) kind s n x
     unfolding sheet_of
-    item-located e = item-located-by (find s) kind s n x e
+    item_located e = item_located_by (find s) kind s n x e
 
-    pub item-below : item kind (sheet_of s) n ≡ some x → n < count_of s (kind_number kind)
-    item-below e = let l = item-located e in found_below s (kind_number kind) n l.at l.found
+    pub item_below : item kind (sheet_of s) n ≡ some x → n < count_of s (kind_number kind)
+    item_below e = let l = item_located e in found_below s (kind_number kind) n l.at l.found

@@ -14,25 +14,25 @@ module _ (v : WorldBBox) {a : Bool} (min-x : a ≡ is_finite v.min_x) where
   infinite_min_x h = rw (← min-x, not-true a h)
 
   module _ {b : Bool} (min-x-finite : not a ≡ false) (min-y : b ≡ is_finite v.min_y) where
-    pub infinite-min-y : not b ≡ true → false ≡ view_ok v
+    pub infinite_min_y : not b ≡ true → false ≡ view_ok v
     unfolding view_ok
-    infinite-min-y h = rw (← min-x, ← min-y, not-false a min-x-finite, not-true b h)
+    infinite_min_y h = rw (← min-x, ← min-y, not-false a min-x-finite, not-true b h)
 
     module _ {c : Bool} (min-y-finite : not b ≡ false) (max-x : c ≡ is_finite v.max_x) where
-      pub infinite-max-x : not c ≡ true → false ≡ view_ok v
+      pub infinite_max_x : not c ≡ true → false ≡ view_ok v
       unfolding view_ok
-      infinite-max-x h = rw (← min-x, ← min-y, ← max-x, not-false a min-x-finite, not-false b min-y-finite, not-true c h)
+      infinite_max_x h = rw (← min-x, ← min-y, ← max-x, not-false a min-x-finite, not-false b min-y-finite, not-true c h)
 
       module _ {d : Bool} (max-x-finite : not c ≡ false) (max-y : d ≡ is_finite v.max_y) where
-        pub infinite-max-y : not d ≡ true → false ≡ view_ok v
+        pub infinite_max_y : not d ≡ true → false ≡ view_ok v
         unfolding view_ok
-        infinite-max-y h = rw (← min-x, ← min-y, ← max-x, ← max-y, not-false a min-x-finite, not-false b min-y-finite, not-false c max-x-finite, not-true d h)
+        infinite_max_y h = rw (← min-x, ← min-y, ← max-x, ← max-y, not-false a min-x-finite, not-false b min-y-finite, not-false c max-x-finite, not-true d h)
 
         module _ (max-y-finite : not d ≡ false) where
-          pub turned-x : not (le v.min_x v.max_x) ≡ true → false ≡ view_ok v
+          pub turned_x : not (le v.min_x v.max_x) ≡ true → false ≡ view_ok v
           unfolding view_ok
-          turned-x h = rw (← min-x, ← min-y, ← max-x, ← max-y, not-false a min-x-finite, not-false b min-y-finite, not-false c max-x-finite, not-false d max-y-finite, not-true (le v.min_x v.max_x) h)
+          turned_x h = rw (← min-x, ← min-y, ← max-x, ← max-y, not-false a min-x-finite, not-false b min-y-finite, not-false c max-x-finite, not-false d max-y-finite, not-true (le v.min_x v.max_x) h)
 
-          pub order-y-decides : not (le v.min_x v.max_x) ≡ false → le v.min_y v.max_y ≡ view_ok v
+          pub order_y_decides : not (le v.min_x v.max_x) ≡ false → le v.min_y v.max_y ≡ view_ok v
           unfolding view_ok
-          order-y-decides h = rw (← min-x, ← min-y, ← max-x, ← max-y, not-false a min-x-finite, not-false b min-y-finite, not-false c max-x-finite, not-false d max-y-finite, not-false (le v.min_x v.max_x) h)
+          order_y_decides h = rw (← min-x, ← min-y, ← max-x, ← max-y, not-false a min-x-finite, not-false b min-y-finite, not-false c max-x-finite, not-false d max-y-finite, not-false (le v.min_x v.max_x) h)

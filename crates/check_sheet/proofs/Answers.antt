@@ -24,17 +24,17 @@ module _ (s : List ℕ) where
 
   module _ (short : length s ≤ max_sheet_bytes) where
     -- numbers 2 to 5: the first record with a no
-    pub record-refused : (c : Counts) (number at : ℕ) → first_no s (offsets s) (Sound c) ≡ Refused number at → check_sheet s ≡ Refused number at
+    pub record_refused : (c : Counts) (number at : ℕ) → first_no s (offsets s) (Sound c) ≡ Refused number at → check_sheet s ≡ Refused number at
     unfolding check_sheet
-    record-refused c number at e = rw (le-leb _ _ short) (refused_before_any s (offsets s) c number at e _)
+    record_refused c number at e = rw (le-leb _ _ short) (refused_before_any s (offsets s) c number at e _)
 
     module _ (All-right : All (Right s) (offsets s)) where
       -- "Are there at most 4,096 cells? No: 7."
-      pub too-many-cells : max_cells < count_of s 5 → check_sheet s ≡ Refused 7 0
+      pub too_many_cells : max_cells < count_of s 5 → check_sheet s ≡ Refused 7 0
       unfolding check_sheet
-      too-many-cells h = rw (le-leb _ _ short, all_right_later s (offsets s) _ All-right, lt-leb _ _ h)
+      too_many_cells h = rw (le-leb _ _ short, all_right_later s (offsets s) _ All-right, lt-leb _ _ h)
 
       -- number 6, or a sound sheet
-      pub then-links : count_of s 5 ≤ max_cells → check_sheet s ≡ first_unnamed s (counts_of s) 0 (offsets s) (Sound (counts_of s))
+      pub then_links : count_of s 5 ≤ max_cells → check_sheet s ≡ first_unnamed s (counts_of s) 0 (offsets s) (Sound (counts_of s))
       unfolding check_sheet
-      then-links h = rw (le-leb _ _ short, all_right_later s (offsets s) _ All-right, le-leb _ _ h)
+      then_links h = rw (le-leb _ _ short, all_right_later s (offsets s) _ All-right, le-leb _ _ h)

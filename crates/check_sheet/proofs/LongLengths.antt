@@ -54,46 +54,46 @@ text = record_bytes (uint 4 26 ∷ uint 2 2 ∷ uint 2 1 ∷ uint 2 0 ∷ uint 8
 module _ (n : ℕ) (long : max_sheet_bytes < n) (fits : n < 2 ^ 32) (rest : List ℕ) where
   first_refused : 4 + length rest ≤ max_sheet_bytes → check_sheet (uint_bytes 4 n ++ rest) ≡ Refused 2 0
   first_refused room =
-      let room-there : 0 + 4 + length rest ≤ max_sheet_bytes = omega arith in
-      refused_there n long fits [] rest room-there [] (offsets_within _ (omega (arith, size n long fits [] rest room-there)) ∙ last n long fits [] rest room-there) tt
+      let room_there : 0 + 4 + length rest ≤ max_sheet_bytes = omega arith in
+      refused_there n long fits [] rest room_there [] (offsets_within _ (omega (arith, size n long fits [] rest room_there)) ∙ last n long fits [] rest room_there) tt
 
   module _ (room : 30 + length rest ≤ max_sheet_bytes) where
-    abbrev behindText : List ℕ
-    behindText = text ++ (uint_bytes 4 n ++ rest)
+    abbrev behind_text : List ℕ
+    behind_text = text ++ (uint_bytes 4 n ++ rest)
 
-    text-length : length text ≡ 26
+    text_length : length text ≡ 26
     unfolding text record_bytes uint_bytes
-    text-length = refl
+    text_length = refl
 
-    room-there : length text + 4 + length rest ≤ max_sheet_bytes
-    room-there = omega (arith, text-length)
+    room_there : length text + 4 + length rest ≤ max_sheet_bytes
+    room_there = omega (arith, text_length)
 
-    first-length : length_at behindText 0 ≡ 26
+    first_length : length_at behind_text 0 ≡ 26
     unfolding text record_bytes uint_bytes uint_at
-    first-length = refl
+    first_length = refl
 
-    first-right : Right behindText 0
+    first_right : Right behind_text 0
     unfolding text record_bytes uint_bytes uint_at f64_at is_finite of_bits of_fields odd both every length_ok shape_ok values_ok finite_at floats_from floats_count floats_ok
-    first-right =
+    first_right =
         record {
-          whole = record { head = omega (arith, first-length); within = omega (arith, first-length, text-length, size n long fits text rest room-there) };
+          whole = record { head = omega (arith, first_length); within = omega (arith, first_length, text_length, size n long fits text rest room_there) };
           shape = refl;
           values = refl;
           floats = refl;
         }
 
-    both-records : offsets behindText ≡ 0 ∷ length text ∷ []
-    both-records =
-        let bytes = size n long fits text rest room-there in
-        let next : 0 + length_at behindText 0 ≡ length text = omega (arith, first-length, text-length) in
-        offsets_within behindText (omega (arith, bytes, room-there))
-        ∙ offsets_more behindText 0 (omega (arith, bytes)) (omega (arith, first-length))
-        ∙ ap (λ (m : ℕ). 0 ∷ offsets_from behindText m) next
-        ∙ ap (λ (xs : List ℕ). 0 ∷ xs) (last n long fits text rest room-there)
+    both_records : offsets behind_text ≡ 0 ∷ length text ∷ []
+    both_records =
+        let bytes = size n long fits text rest room_there in
+        let next : 0 + length_at behind_text 0 ≡ length text = omega (arith, first_length, text_length) in
+        offsets_within behind_text (omega (arith, bytes, room_there))
+        ∙ offsets_more behind_text 0 (omega (arith, bytes)) (omega (arith, first_length))
+        ∙ ap (λ (m : ℕ). 0 ∷ offsets_from behind_text m) next
+        ∙ ap (λ (xs : List ℕ). 0 ∷ xs) (last n long fits text rest room_there)
 
-    second-refused : check_sheet behindText ≡ Refused 2 26
-    second-refused =
-        refused_there n long fits text rest room-there (0 ∷ []) both-records (first-right, tt) ∙ ap (Refused 2) text-length
+    second_refused : check_sheet behind_text ≡ Refused 2 26
+    second_refused =
+        refused_there n long fits text rest room_there (0 ∷ []) both_records (first_right, tt) ∙ ap (Refused 2) text_length
 
 -- ---- Paper 4's four lengths
 
@@ -116,4 +116,4 @@ four_refused rest room = (
 )
   where
     refused : (n : ℕ) → max_sheet_bytes < n → n < 2 ^ 32 → BothRefused rest n
-    refused n long fits = (first_refused n long fits rest (omega arith), second-refused n long fits rest room)
+    refused n long fits = (first_refused n long fits rest (omega arith), second_refused n long fits rest room)

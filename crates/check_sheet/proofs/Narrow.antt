@@ -14,22 +14,22 @@ use Rattle.check_sheet.specs.Count.{counts_of}
 use Rattle.check_sheet.specs.Check.{first_no}
 use Rattle.check_sheet.specs.Narrow.{LongLengthIsRefused}
 use Rattle.check_sheet.proofs.Passes.{first_no_stop, right_passed}
-use Rattle.check_sheet.proofs.Answers.{record-refused}
+use Rattle.check_sheet.proofs.Answers.{record_refused}
 
 -- question 2 has the no
 past_refused : (s : List ℕ) (at : ℕ) → ReachesPast s at → record_refusal s at ≡ 2
 unfolding record_refusal
-past_refused s at past = by-frame (frame_ok s at) refl
+past_refused s at past = by_frame (frame_ok s at) refl
   where
-    by-frame : (b : Bool) → frame_ok s at ≡ b → record_refusal s at ≡ 2
-    by-frame true e = let w = frame_whole s at e in absurd (omega (arith, w.within))
-    by-frame false e = rw e
+    by_frame : (b : Bool) → frame_ok s at ≡ b → record_refusal s at ≡ 2
+    by_frame true e = let w = frame_whole s at e in absurd (omega (arith, w.within))
+    by_frame false e = rw e
 
 pub long_length_is_refused : LongLengthIsRefused
 long_length_is_refused s before after at short e right past =
     let two = past_refused s at past in
     let sound = Sound (counts_of s) in
-    record-refused s short (counts_of s) 2 at
+    record_refused s short (counts_of s) 2 at
     (ap (λ (xs : List ℕ). first_no s xs sound) e
     ∙ right_passed s before (at ∷ after) sound right
     ∙ first_no_stop s at after sound (λ z. omega (arith, two))

@@ -18,11 +18,11 @@ use Rattle.check_sheet.specs.Count.{counts_of, tallied, counted, AtMost}
 
 tallied_at_most : (n kind k : ℕ) → tallied n kind k ≤ n + 1
 unfolding tallied
-tallied_at_most n kind k = by-test (eqb kind k)
+tallied_at_most n kind k = by_test (eqb kind k)
   where
-    by-test : (b : Bool) → n + cond b 1 0 ≤ n + 1
-    by-test true = omega arith
-    by-test false = omega arith
+    by_test : (b : Bool) → n + cond b 1 0 ≤ n + 1
+    by_test true = omega arith
+    by_test false = omega arith
 
 -- a count that is at most an offset stays so with the record there
 pub tallied_next : (n kind k at size : ℕ) → n ≤ at → 6 ≤ size → tallied n kind k ≤ at + size

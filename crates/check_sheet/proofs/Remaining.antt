@@ -53,16 +53,16 @@ module _ (s : List ℕ) where
 
   module _ (c : Counts) where
     -- a record of another kind names nothing
-    other-ok : (own at : ℕ) → eqb (kind_at s at) 4 ≡ false → eqb (kind_at s at) 5 ≡ false → link_ok s c own at ≡ true
+    other_ok : (own at : ℕ) → eqb (kind_at s at) 4 ≡ false → eqb (kind_at s at) 5 ≡ false → link_ok s c own at ≡ true
     unfolding link_ok
-    other-ok own at e f = rw (e, f)
+    other_ok own at e f = rw (e, f)
 
-    none-asked-named : (own : ℕ) (xs : List ℕ) → asked_in s xs ≡ 0 → AllNamed s c own xs
-    none-asked-named own [] e = tt
-    none-asked-named own (at ∷ xs) e =
+    none_asked_named : (own : ℕ) (xs : List ℕ) → asked_in s xs ≡ 0 → AllNamed s c own xs
+    none_asked_named own [] e = tt
+    none_asked_named own (at ∷ xs) e =
         let references = count_step s 4 at xs in
         let cells = count_step s 5 at xs in
-        (other-ok own at (none_counted _ (omega arith)) (none_counted _ (omega arith)), none-asked-named _ xs (omega arith))
+        (other_ok own at (none_counted _ (omega arith)) (none_counted _ (omega arith)), none_asked_named _ xs (omega arith))
 
 -- ---- The records from an offset on
 
@@ -90,21 +90,21 @@ module _ (s : List ℕ) (c : Counts) (at own left : ℕ) (r : Remaining s c at o
   pub none_remain : left ≤ 0 → Sound c ≡ first_unnamed s c 0 (offsets s) (Sound c)
   none_remain h =
       let none : asked_in s (offsets_from s at) ≡ 0 = omega (arith, r.asked) in
-      sym (all_named_later s c own (offsets_from s at) (Sound c) (none-asked-named s c own (offsets_from s at) none)) ∙ r.same
+      sym (all_named_later s c own (offsets_from s at) (Sound c) (none_asked_named s c own (offsets_from s at) none)) ∙ r.same
 
   module _ (some : 0 < left) where
-    remains-within : at < length s
-    remains-within = asked_within s at (omega (arith, r.asked))
+    remains_within : at < length s
+    remains_within = asked_within s at (omega (arith, r.asked))
 
     step : Right s at × All (Right s) (offsets_from s (at + length_at s at))
-    step = all_step s (Right s) at (λ here. here.whole.head) r.right remains-within
+    step = all_step s (Right s) at (λ here. here.whole.head) r.right remains_within
 
     -- the record at hand is right
-    pub remains-right : Right s at
-    remains-right = step.0
+    pub remains_right : Right s at
+    remains_right = step.0
 
     here : offsets_from s at ≡ at ∷ offsets_from s (at + length_at s at)
-    here = offsets_more s at remains-within remains-right.whole.head
+    here = offsets_more s at remains_within remains_right.whole.head
 
     asked_here : left ≡ cond (eqb (kind_at s at) 4) 1 0 + cond (eqb (kind_at s at) 5) 1 0 + asked_in s (offsets_from s (at + length_at s at))
     asked_here =
@@ -122,22 +122,22 @@ module _ (s : List ℕ) (c : Counts) (at own left : ℕ) (r : Remaining s c at o
         sym (ap (λ (xs : List ℕ). first_unnamed s c own xs (Sound c)) here ∙ first_unnamed_pass s c own at _ (Sound c) ok) ∙ r.same
 
     -- a reference or a cell that names what exists
-    pub asked-passed : 3 < kind_at s at → link_ok s c own at ≡ true → Remaining s c (at + length_at s at) (tallied own (kind_at s at) 4) (left - 1)
-    asked-passed h ok =
+    pub asked_passed : 3 < kind_at s at → link_ok s c own at ≡ true → Remaining s c (at + length_at s at) (tallied own (kind_at s at) 4) (left - 1)
+    asked_passed h ok =
         record {
           right = step.1;
-          most = tallied_next _ _ _ _ _ r.most remains-right.whole.head;
-          asked = omega (arith, asked_here, one_asked (kind_at s at) h (shape_known s at remains-right.shape).1);
+          most = tallied_next _ _ _ _ _ r.most remains_right.whole.head;
+          asked = omega (arith, asked_here, one_asked (kind_at s at) h (shape_known s at remains_right.shape).1);
           same = passed ok;
         }
 
     -- a record of another kind
-    pub other-passed : kind_at s at ≤ 3 → Remaining s c (at + length_at s at) own left
+    pub other_passed : kind_at s at ≤ 3 → Remaining s c (at + length_at s at) own left
     unfolding tallied
-    other-passed h =
+    other_passed h =
         let references = ne_eqb (kind_at s at) 4 (λ e. omega arith) in
         let cells = ne_eqb (kind_at s at) 5 (λ e. omega arith) in
-        let ok = other-ok s c own at references cells in
+        let ok = other_ok s c own at references cells in
         let number : own + 0 ≡ own = omega arith in
         record {
           right = step.1;
@@ -147,6 +147,6 @@ module _ (s : List ℕ) (c : Counts) (at own left : ℕ) (r : Remaining s c at o
         }
 
     -- one that names what is missing
-    pub asked-refused : link_ok s c own at ≡ false → Refused 6 at ≡ first_unnamed s c 0 (offsets s) (Sound c)
-    asked-refused no-link =
+    pub asked_refused : link_ok s c own at ≡ false → Refused 6 at ≡ first_unnamed s c 0 (offsets s) (Sound c)
+    asked_refused no-link =
         sym (ap (λ (xs : List ℕ). first_unnamed s c own xs (Sound c)) here ∙ first_unnamed_stop s c own at _ (Sound c) no-link) ∙ r.same

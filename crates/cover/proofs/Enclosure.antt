@@ -27,7 +27,7 @@ use Rattle.paths.specs.Square.{Square, FewMembers}
 use Rattle.paths.specs.TrueBoxes.{reference_bounds, cell_bounds, TrueSourceBox, TrueBoxes}
 use Rattle.paths.proofs.Square.{box_is, box_within, bounds_square, reference_grid}
 use Rattle.paths.proofs.TrueBoxes.{Surrounds, enclosing, present, same_present, bounds_enclosing, least_surrounds}
-use Rattle.cover.specs.Path.{Path, Item, a_batch, a_text, a_point, member_at, StepLeads, to-batch, to_text, to_node, to_reference, through-member, Leads, at-batch, at-text, at-point, step}
+use Rattle.cover.specs.Path.{Path, Item, a_batch, a_text, a_point, member_at, StepLeads, to_batch, to_text, to_node, to_reference, through_member_lem, Leads, at_batch, at_text, at_point, step}
 use Rattle.cover.specs.View.{placed_batch, text_position, point_position, WithinBox}
 
 -- ---- boxes
@@ -94,7 +94,7 @@ module _ (S : Sheet) (few : FewMembers S) (sq : Square S) (true-boxes : TrueBoxe
 
   -- a step back toward the root
   back_a_step : {s u : PreparedSource} {T U : ExactPlacement} {k : Step} (h : Item) → StepLeads S s T k u U → Within u U h → Within s T h
-  back_a_step h (to-batch {n = n} {i = i} {T = T} {c = c} e i<) k =
+  back_a_step h (to_batch {n = n} {i = i} {T = T} {c = c} e i<) k =
       let g = k.0 in
       let o = outward c.bbox T h (box_of g.bbox) (enclosing c.bbox (box_of g.bbox) ((true-boxes.cells n c e).batches i g i< k.1 k.2)) k.3 in
       (c, o.0, e, o.1, o.2)
@@ -115,13 +115,13 @@ module _ (S : Sheet) (few : FewMembers S) (sq : Square S) (true-boxes : TrueBoxe
       let u = bounds_enclosing c.bbox (reference_bounds r r.source_bbox) (corners_bbox r.grid k.1) m.0 ((true-boxes.cells n c e).references i r i< k.2) in
       let o = outward c.bbox T h z (u.0, u.1, encloses_trans z (box_of (corners_bbox r.grid k.1)) (box_of u.0) m.1 u.2) k.6 in
       (c, o.0, e, o.1, o.2)
-  back_a_step h (through-member {n = n} {column = column} {row = row} {T = T} {r = r} e c< r<) k =
+  back_a_step h (through_member_lem {n = n} {column = column} {row = row} {T = T} {r = r} e c< r<) k =
       let o = in_source_box n r e (member_at T r column row) h k in
       let z = reference_box (grid_of r.grid) r.grid.columns r.grid.rows (box_of o.0) in
       (r, o.0, e, o.1, omega arith, omega arith, within_larger h (place (member_at T r column row) (box_of o.0)) (place T z) (member_in_reference_box n r o.0 column row T e o.1 c< r<) o.2)
 
   pub enclosed : {s : PreparedSource} {T : ExactPlacement} {p : Path} {h : Item} → Leads S s T p h → HasElements h → Within s T h
-  enclosed (at-batch {T = T} {g = g} e) c = (g, e, c, encloses_self (place T (box_of g.bbox)))
-  enclosed (at-text {T = T} {x = x} e) c = let v = vector_of x.origin in (x, e, place_holds T (point_box v) v (point_holds v))
-  enclosed (at-point {j = j} {T = T} {x = x} e j<) c = let v = vector_of (x.point j) in (x, j, e, j<, place_holds T (point_box v) v (point_holds v))
+  enclosed (at_batch {T = T} {g = g} e) c = (g, e, c, encloses_self (place T (box_of g.bbox)))
+  enclosed (at_text {T = T} {x = x} e) c = let v = vector_of x.origin in (x, e, place_holds T (point_box v) v (point_holds v))
+  enclosed (at_point {j = j} {T = T} {x = x} e j<) c = let v = vector_of (x.point j) in (x, j, e, j<, place_holds T (point_box v) v (point_holds v))
   enclosed (step {h = h} k l) c = back_a_step h k (enclosed l c)

@@ -31,13 +31,13 @@ use Rattle.plan_rules.proofs.Simulation.Premises.{Premises}
 use Rattle.paths.specs.Square.{Square, FewMembers}
 use Rattle.paths.proofs.Square.{bounds_square, reference_grid}
 use Rattle.paths.specs.Path.{references}
-use Rattle.cover.specs.Path.{Path, a_batch, a_text, a_point, member_at, at-batch, at-text, at-point}
+use Rattle.cover.specs.Path.{Path, a_batch, a_text, a_point, member_at, at_batch, at_text, at_point}
 use Rattle.cover.specs.Trace.{enter, path_of, events, All, IsRecord, batch_record, text_record, point_record}
-use Rattle.cover.specs.Covered.{lists_batch, lists_text, lists_point, IsSkip, member_skip, batch_skip, Skipped, skipped-member, skipped-batch, ListsItsPath}
+use Rattle.cover.specs.Covered.{lists_batch, lists_text, lists_point, IsSkip, member_skip, batch_skip, Skipped, skipped_member_lem, skipped_batch_lem, ListsItsPath}
 use Rattle.cover.proofs.TagPaths.{Tagged, start, tag_reaches, tag_leads, tag_leads_here, paths_all, all_map}
 use Rattle.cover.proofs.Standing as standing
 use Rattle.cover.proofs.EveryEvent.{every_event}
-use Rattle.cover.proofs.Exactness.{placed_box, moved_point, member-placed, member_under_one_pixel, batch_under_one_pixel}
+use Rattle.cover.proofs.Exactness.{placed_box, moved_point, member_placed, member_under_one_pixel, batch_under_one_pixel}
 
 module _ (S : Sheet) (q : Query) where
   -- ---- what an event says, by its tag
@@ -77,61 +77,61 @@ module _ (S : Sheet) (q : Query) where
     keeps : standing.Keeps member_at S identity q.root Exactly
     keeps d level p T n r x y h e x< y< =
         let room = h.room in
-        let m = member-placed level (omega arith) p T h.is h.within r.grid (reference_grid S few sq n r e) x y x< y< in
+        let m = member_placed level (omega arith) p T h.is h.within r.grid (reference_grid S few sq n r e) x y x< y< in
         record { room = omega arith; is = m.0; within = m.1 }
 
     -- ---- events
 
-    batch-listed : (d : ℕ) (t : List Step) (n : ℕ) (g : PreparedGeometry) (p : Placement) → Stands d t (Geometry n) p → S.geometry n ≡ some g → EventFact t (batch n p)
-    batch-listed d t n g p h e = let i = a_batch n g h.exact in (i, tag_leads_here i h.led (at-batch e), lists_batch h.near.is)
+    batch_listed : (d : ℕ) (t : List Step) (n : ℕ) (g : PreparedGeometry) (p : Placement) → Stands d t (Geometry n) p → S.geometry n ≡ some g → EventFact t (batch n p)
+    batch_listed d t n g p h e = let i = a_batch n g h.exact in (i, tag_leads_here i h.led (at_batch e), lists_batch h.near.is)
 
-    text-listed : (d : ℕ) (t : List Step) (n : ℕ) (x : PreparedText) (p : Placement) → Stands d t (Text n) p → S.text n ≡ some x → EventFact t (text n (transform_point2 p x.origin))
-    text-listed d t n x p h e =
+    text_listed : (d : ℕ) (t : List Step) (n : ℕ) (x : PreparedText) (p : Placement) → Stands d t (Text n) p → S.text n ≡ some x → EventFact t (text n (transform_point2 p x.origin))
+    text_listed d t n x p h e =
         let room = h.near.room in
         let i = a_text n x h.exact in
-        (i, tag_leads_here i h.led (at-text e), lists_text (moved_point (references t) (omega arith) p h.exact h.near.is h.near.within x.origin (sq.text n x e)))
+        (i, tag_leads_here i h.led (at_text e), lists_text (moved_point (references t) (omega arith) p h.exact h.near.is h.near.within x.origin (sq.text n x e)))
 
-    point-listed : (d : ℕ) (t : List Step) (n : ℕ) (x : NodeRecord) (j : ℕ) (p : Placement) → Stands d t (Node n) p → S.node n ≡ some x → j < x.count
+    point_listed : (d : ℕ) (t : List Step) (n : ℕ) (x : NodeRecord) (j : ℕ) (p : Placement) → Stands d t (Node n) p → S.node n ≡ some x → j < x.count
         → EventFact (point_at j ∷ t) (point x.layer x.node_type (transform_point2 p (x.point j)))
-    point-listed d t n x j p h e j< =
+    point_listed d t n x j p h e j< =
         let room = h.near.room in
         let i = a_point n x j h.exact in
-        (i, tag_leads (point_at j ∷ []) i h.led (at-point e j<), lists_point (moved_point (references t) (omega arith) p h.exact h.near.is h.near.within (x.point j) (sq.point n x j e j<)))
+        (i, tag_leads (point_at j ∷ []) i h.led (at_point e j<), lists_point (moved_point (references t) (omega arith) p h.exact h.near.is h.near.within (x.point j) (sq.point n x j e j<)))
 
-    member-skipped : (d : ℕ) (t : List Step) (n : ℕ) (r : PreparedReference) (b : WorldBBox) (x y : ℕ) (p : Placement) → Stands d t (Reference n) p → S.reference n ≡ some r → r.source_bbox ≡ boxed b
+    member_skipped : (d : ℕ) (t : List Step) (n : ℕ) (r : PreparedReference) (b : WorldBBox) (x y : ℕ) (p : Placement) → Stands d t (Reference n) p → S.reference n ≡ some r → r.source_bbox ≡ boxed b
         → x < r.grid.columns → y < r.grid.rows → let z = transform_bbox (p · grid_member_transform r.grid x y) b in
         Yes (is_subpixel (reference_screen_size z q.zoom (source_is_degenerate b))) → EventFact (member x y ∷ t) (skipped_member (source_is_degenerate b) z)
-    member-skipped d t n r b x y p h e eb x< y< k zoom =
+    member_skipped d t n r b x y p h e eb x< y< k zoom =
         let room = h.near.room in
         let T = h.exact in
         let M = member_at T r x y in
         let P = p · grid_member_transform r.grid x y in
-        let m = member-placed (references t) (omega arith) p T h.near.is h.near.within r.grid (reference_grid S few sq n r e) x y x< y< in
+        let m = member_placed (references t) (omega arith) p T h.near.is h.near.within r.grid (reference_grid S few sq n r e) x y x< y< in
         let s = bounds_square r.source_bbox b eb (sq.source_box n r e) in
         let i = placed_box (suc (references t)) (omega arith) P M m.0 m.1 b s in
-        skipped-member b (tag_reaches h.led) e eb x< y< i (member_under_one_pixel q.zoom zoom M b s (transform_bbox P b) i (source_is_degenerate b) k)
+        skipped_member_lem b (tag_reaches h.led) e eb x< y< i (member_under_one_pixel q.zoom zoom M b s (transform_bbox P b) i (source_is_degenerate b) k)
 
-    batch-skipped : (d : ℕ) (t : List Step) (n : ℕ) (g : PreparedGeometry) (p : Placement) → Stands d t (Geometry n) p → S.geometry n ≡ some g
+    batch_skipped : (d : ℕ) (t : List Step) (n : ℕ) (g : PreparedGeometry) (p : Placement) → Stands d t (Geometry n) p → S.geometry n ≡ some g
         → Yes (is_subpixel (screen_size (transform_bbox p g.bbox) q.zoom)) → EventFact t (skipped_batch (transform_bbox p g.bbox))
-    batch-skipped d t n g p h e k zoom =
+    batch_skipped d t n g p h e k zoom =
         let room = h.near.room in
         let i = placed_box (references t) (omega arith) p h.exact h.near.is h.near.within g.bbox (sq.geometry n g e) in
-        skipped-batch (tag_reaches h.led) e i (batch_under_one_pixel q.zoom zoom h.exact g.bbox (sq.geometry n g e) (transform_bbox p g.bbox) i k)
+        skipped_batch_lem (tag_reaches h.led) e i (batch_under_one_pixel q.zoom zoom h.exact g.bbox (sq.geometry n g e) (transform_bbox p g.bbox) i k)
 
     premises : Premises enter S q Stands EventFact
     premises = record {
-      at-batch = standing.stands_batch member_at S identity q.root Exactly;
-      at-text = standing.stands_text member_at S identity q.root Exactly;
+      at_batch = standing.stands_batch member_at S identity q.root Exactly;
+      at_text = standing.stands_text member_at S identity q.root Exactly;
       at-node = standing.stands_node member_at S identity q.root Exactly;
       at-reference = standing.stands_reference member_at S identity q.root Exactly;
       at-member = standing.stands_member member_at S identity q.root Exactly keeps;
-      listed-batch = batch-listed;
-      listed-text = text-listed;
-      listed-point = point-listed;
+      listed-batch = batch_listed;
+      listed-text = text_listed;
+      listed-point = point_listed;
       listed-proxy = λ t y l b. tt;
       dropped-proxy = λ t y l b. tt;
-      skipped-batch = batch-skipped;
-      skipped-member = member-skipped;
+      skipped_batch_lem = batch_skipped;
+      skipped_member_lem = member_skipped;
       culled-reference = λ t. tt;
       culled-batch = λ t. tt;
       detail-cell = λ t. tt;
@@ -139,13 +139,13 @@ module _ (S : Sheet) (q : Query) where
 
     -- ---- the plan
 
-    pub plan-facts : (cells : ℕ) → q.depth ≤ 48 → (w : World Tagged) → w.out ≡ [] → All (λ (x : List Step × Event). EventFact x.0 x.1) (plan enter note S cells q [] w).out
-    plan-facts cells d w e =
+    pub plan_facts : (cells : ℕ) → q.depth ≤ 48 → (w : World Tagged) → w.out ≡ [] → All (λ (x : List Step × Event). EventFact x.0 x.1) (plan enter note S cells q [] w).out
+    plan_facts cells d w e =
         every_event S q Stands EventFact premises (λ u. tt) (record { exact = identity; led = start; near = record { room = omega arith; is = identity_exact; within = identity_level } }) cells w e
 
     -- every record of the plan lists its path
-    pub plan-listed : (cells : ℕ) → q.depth ≤ 48 → (counts marks : List ℕ) → All (λ (x : Path × Event). IsRecord x.1 → ListsItsPath S q x.0 x.1) (events S cells q counts marks)
-    plan-listed cells d counts marks =
+    pub plan_listed : (cells : ℕ) → q.depth ≤ 48 → (counts marks : List ℕ) → All (λ (x : Path × Event). IsRecord x.1 → ListsItsPath S q x.0 x.1) (events S cells q counts marks)
+    plan_listed cells d counts marks =
         let begin : World Tagged = world empty_plan [] counts marks in
         paths_all (λ (x : Path × Event). IsRecord x.1 → ListsItsPath S q x.0 x.1) (plan enter note S cells q [] begin).out
-        (all_map _ (λ x s. listed_fact x.0 x.1 s) (plan-facts cells d begin refl))
+        (all_map _ (λ x s. listed_fact x.0 x.1 s) (plan_facts cells d begin refl))

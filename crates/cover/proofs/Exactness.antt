@@ -40,15 +40,15 @@ module _ (n : ℕ) (n≤ : n ≤ deepest_level) (p : Placement) (T : ExactPlacem
   moved_point v h = level_point_exact n n≤ p T i level v (vector_of v) (vector_is v h) (vector_widen (2 ^ 31) (2 ^ 48) (vector_of v) (omega arith) (vector_within v h))
 
   module _ (g : Grid) (is : IsGrid g (grid_of g)) where
-    pub member-placed : (column row : ℕ) → column < g.columns → row < g.rows
+    pub member_placed : (column row : ℕ) → column < g.columns → row < g.rows
         → IsPlacement (p · grid_member_transform g column row) (T ∘ member_placement (grid_of g) column row) × AtLevel (suc n) (T ∘ member_placement (grid_of g) column row)
-    member-placed column row c< r< =
+    member_placed column row c< r< =
         let c≤ : column ≤ 32767 = omega (arith, is.columns) in
         let r≤ : row ≤ 32767 = omega (arith, is.rows) in
         level_member_exact n n≤ p T i level g (grid_of g) column row is c≤ r≤
 
-    pub corners-placed : (b : WorldBBox) → SquareBox b → IsBox (transform_bbox p (corners_bbox g b)) (place T (reference_box (grid_of g) g.columns g.rows (box_of b)))
-    corners-placed b s = placed_corners_bbox_exact g (grid_of g) is b (box_of b) (box_is b s) s.proper (box_within b s) n n≤ p T i level
+    pub corners_placed : (b : WorldBBox) → SquareBox b → IsBox (transform_bbox p (corners_bbox g b)) (place T (reference_box (grid_of g) g.columns g.rows (box_of b)))
+    corners_placed b s = placed_corners_bbox_exact g (grid_of g) is b (box_of b) (box_is b s) s.proper (box_within b s) n n≤ p T i level
 
 -- ---- what the rules skip: on a square sheet no size is infinite, for zoom up to 2^64
 

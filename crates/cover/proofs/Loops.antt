@@ -63,10 +63,10 @@ module _ {A : Type 0} (Q : World A → Type 0) where
   each_keeps f N k (suc n) i e w h = bind_keeps (f i w) (each f n (i + 1)) (k i (omega arith) w h) (each_keeps f N k n (i + 1) (omega arith))
 
   module _ (f : ℕ → World A → Flow A) (N a : ℕ) (a< : a < N) (keep : (b : ℕ) → b < N → Keeps (f b)) where
-    pub each-covers : ((b : ℕ) → b < a → (w : World A) → OnHalt (f b w)) → ((w : World A) → Q (ending (f a w))) → (n i : ℕ) → i + n ≡ N → i ≤ a → (w : World A) → Q (ending (each f n i w))
+    pub each_covers : ((b : ℕ) → b < a → (w : World A) → OnHalt (f b w)) → ((w : World A) → Q (ending (f a w))) → (n i : ℕ) → i + n ≡ N → i ≤ a → (w : World A) → Q (ending (each f n i w))
     unfolding each
-    each-covers before self zero i e l w = absurd (let z : ⊥ = omega arith in z)
-    each-covers before self (suc n) i e l w = by (at_or_below i a l) (λ k. each-covers before self n (i + 1) (omega arith) k)
+    each_covers before self zero i e l w = absurd (let z : ⊥ = omega arith in z)
+    each_covers before self (suc n) i e l w = by (at_or_below i a l) (λ k. each_covers before self n (i + 1) (omega arith) k)
       where
         by : (i ≡ a) ⊎ (i < a) → (i + 1 ≤ a → (w : World A) → Q (ending (each f n (i + 1) w))) → Q (ending (bind (f i w) (each f n (i + 1))))
         by (inl z) below = bind_keeps (f i w) (each f n (i + 1)) (subst (λ (j : ℕ). Q (ending (f j w))) (sym z) (self w)) (each_keeps f N keep n (i + 1) (omega arith))
@@ -83,14 +83,14 @@ module _ {A : Type 0} (Q : World A → Type 0) where
 
   -- four loops in a row, seen from a step of the first, the second, the third, the fourth
   module _ (x : Flow A) (f₂ f₃ f₄ : World A → Flow A) where
-    pub in-first : Q (ending x) → Keeps f₂ → Keeps f₃ → Keeps f₄ → Q (ending (bind (bind (bind x f₂) f₃) f₄))
-    in-first h k₂ k₃ k₄ = bind_keeps (bind (bind x f₂) f₃) f₄ (bind_keeps (bind x f₂) f₃ (bind_keeps x f₂ h k₂) k₃) k₄
+    pub in_first : Q (ending x) → Keeps f₂ → Keeps f₃ → Keeps f₄ → Q (ending (bind (bind (bind x f₂) f₃) f₄))
+    in_first h k₂ k₃ k₄ = bind_keeps (bind (bind x f₂) f₃) f₄ (bind_keeps (bind x f₂) f₃ (bind_keeps x f₂ h k₂) k₃) k₄
 
-    pub in-second : OnHalt x → ((w : World A) → Q (ending (f₂ w))) → Keeps f₃ → Keeps f₄ → Q (ending (bind (bind (bind x f₂) f₃) f₄))
-    in-second h k₂ k₃ k₄ = bind_keeps (bind (bind x f₂) f₃) f₄ (bind_keeps (bind x f₂) f₃ (bind_after x f₂ h k₂) k₃) k₄
+    pub in_second : OnHalt x → ((w : World A) → Q (ending (f₂ w))) → Keeps f₃ → Keeps f₄ → Q (ending (bind (bind (bind x f₂) f₃) f₄))
+    in_second h k₂ k₃ k₄ = bind_keeps (bind (bind x f₂) f₃) f₄ (bind_keeps (bind x f₂) f₃ (bind_after x f₂ h k₂) k₃) k₄
 
-    pub in-third : OnHalt x → ((w : World A) → OnHalt (f₂ w)) → ((w : World A) → Q (ending (f₃ w))) → Keeps f₄ → Q (ending (bind (bind (bind x f₂) f₃) f₄))
-    in-third h h₂ k₃ k₄ = bind_keeps (bind (bind x f₂) f₃) f₄ (bind_after (bind x f₂) f₃ (bind_halts x f₂ h h₂) k₃) k₄
+    pub in_third : OnHalt x → ((w : World A) → OnHalt (f₂ w)) → ((w : World A) → Q (ending (f₃ w))) → Keeps f₄ → Q (ending (bind (bind (bind x f₂) f₃) f₄))
+    in_third h h₂ k₃ k₄ = bind_keeps (bind (bind x f₂) f₃) f₄ (bind_after (bind x f₂) f₃ (bind_halts x f₂ h h₂) k₃) k₄
 
-    pub in-fourth : OnHalt x → ((w : World A) → OnHalt (f₂ w)) → ((w : World A) → OnHalt (f₃ w)) → ((w : World A) → Q (ending (f₄ w))) → Q (ending (bind (bind (bind x f₂) f₃) f₄))
-    in-fourth h h₂ h₃ k₄ = bind_after (bind (bind x f₂) f₃) f₄ (bind_halts (bind x f₂) f₃ (bind_halts x f₂ h h₂) h₃) k₄
+    pub in_fourth : OnHalt x → ((w : World A) → OnHalt (f₂ w)) → ((w : World A) → OnHalt (f₃ w)) → ((w : World A) → Q (ending (f₄ w))) → Q (ending (bind (bind (bind x f₂) f₃) f₄))
+    in_fourth h h₂ h₃ k₄ = bind_after (bind (bind x f₂) f₃) f₄ (bind_halts (bind x f₂) f₃ (bind_halts x f₂ h h₂) h₃) k₄

@@ -35,12 +35,12 @@ use Rattle.plan_rules.proofs.Cases.Opened.{opened}
 use Rattle.plan_rules.specs.Samples.{whole, spot, page, sheet_of_lists, batch_of, text_at_spot, node_of, refer, cell_of, viewing}
 use Rattle.totals.specs.Proxies.{listed_proxies, dropped_proxies}
 use Rattle.paths.proofs.Square.{box_is}
-use Rattle.cover.specs.Path.{Path, Item, a_batch, a_text, a_point, member_at, to-batch, to_text, to_reference, through-member, at-batch, at-text, at-point, step, LeadsTo}
+use Rattle.cover.specs.Path.{Path, Item, a_batch, a_text, a_point, member_at, to_batch, to_text, to_reference, through_member_lem, at_batch, at_text, at_point, step, LeadsTo}
 use Rattle.cover.specs.View.{text_position, WithinBox, InView}
 use Rattle.cover.specs.Trace.{Trace, events, All, and_then, Any, here, before, text_record}
 use Rattle.geometry.specs.Bbox.{source_is_degenerate}
 use Rattle.screen.specs.Screen.{screen_size}
-use Rattle.cover.specs.Covered.{UnderOnePixel, Lists, lists_batch, lists_text, lists_point, IsSkip, batch_skip, Skipped, skipped-member, skipped-batch, DroppedWhenFull, Covers, Covered, listed, within-proxy, within-dropped-proxy, in-skipped}
+use Rattle.cover.specs.Covered.{UnderOnePixel, Lists, lists_batch, lists_text, lists_point, IsSkip, batch_skip, Skipped, skipped_member_lem, skipped_batch_lem, DroppedWhenFull, Covers, Covered, listed, within_proxy, within_dropped_proxy, in_skipped}
 use Rattle.cover.specs.Demand3.{LosesNothing, events_of, IsTape}
 use Rattle.cover.proofs.Examples.Decided.{is_square_box, square_box}
 use Rattle.cover.proofs.Examples.Boxes.{whole_same, box, box_holds, without_totals}
@@ -67,14 +67,14 @@ module _ (S : Sheet) (q : Query) where
   listed_cover p h e (lists_point i) = (refl, lists_point i)
 
   skipped_cover : (p : Path) (h : Item) (place : Path) (e : Event) → Skipped S q place e → CoverOf p h place e
-  skipped_cover p h place e (skipped-member b r f eb c< r< i u) = skipped-member b r f eb c< r< i u
-  skipped_cover p h place e (skipped-batch r f i u) = skipped-batch r f i u
+  skipped_cover p h place e (skipped_member_lem b r f eb c< r< i u) = skipped_member_lem b r f eb c< r< i u
+  skipped_cover p h place e (skipped_batch_lem r f i u) = skipped_batch_lem r f i u
 
   cover_of : {p : Path} {h : Item} {place : Path} {e : Event} → Covers S q p h place e → CoverOf p h place e
   cover_of {p = p} {h = h} {e = e} (listed l) = listed_cover p h e l
-  cover_of (within-proxy {z = z} i w) = (z, i, w)
-  cover_of (within-dropped-proxy {z = z} i w) = (z, i, w)
-  cover_of {p = p} {h = h} {place = place} {e = e} (in-skipped r s z) = skipped_cover p h place e s
+  cover_of (within_proxy {z = z} i w) = (z, i, w)
+  cover_of (within_dropped_proxy {z = z} i w) = (z, i, w)
+  cover_of {p = p} {h = h} {place = place} {e = e} (in_skipped r s z) = skipped_cover p h place e s
 
 -- ---- one text: document 01's worked sheet
 
@@ -94,7 +94,7 @@ abbrev label_path : Path
 label_path = text_at 0 ∷ []
 
 leads : LeadsTo labelled 0 label_path (a_text 0 label identity)
-leads = step (to_text {n = 0} {i = 0} {c = label_cell} refl (omega arith)) (at-text refl)
+leads = step (to_text {n = 0} {i = 0} {c = label_cell} refl (omega arith)) (at_text refl)
 
 -- the point (x, y) at the identity lies in a box from (0, 0)
 held : (w h x y : ℕ) → w ≤ 1000 → h ≤ 1000 → x ≤ w → y ≤ h → Holds (box_of (page w h)) (text_position (text_at_spot x y) identity)
@@ -168,7 +168,7 @@ abbrev half : Query
 half = viewing (page 100 100) (fin false 1 (negsuc 0)) 1 20000
 
 strip_leads : LeadsTo striped 0 (batch_at 0 ∷ []) (a_batch 0 strip identity)
-strip_leads = step (to-batch {n = 0} {i = 0} {c = strip_cell} refl (omega arith)) (at-batch refl)
+strip_leads = step (to_batch {n = 0} {i = 0} {c = strip_cell} refl (omega arith)) (at_batch refl)
 
 strip_seen : InView (page 100 100) (a_batch 0 strip identity)
 strip_seen =
@@ -189,8 +189,8 @@ tall b e u = subst (λ (b : WorldBBox). UnderOnePixel (screen_size b half.zoom))
 
 -- what is said to be skipped is measured so, if it is a batch
 measured : (p : Path) (e : Event) → Skipped striped half p e → ((b : WorldBBox) × (e ≡ skipped_batch b) × UnderOnePixel (screen_size b half.zoom)) ⊎ ((g : Bool) × (b : WorldBBox) × (e ≡ skipped_member g b))
-measured p e (skipped-member {box = b} sb r f eb c< r< i u) = inr (source_is_degenerate sb, b, refl)
-measured p e (skipped-batch {box = b} r f i u) = inl (b, refl, u)
+measured p e (skipped_member_lem {box = b} sb r f eb c< r< i u) = inr (source_is_degenerate sb, b, refl)
+measured p e (skipped_batch_lem {box = b} r f i u) = inl (b, refl, u)
 
 not_skipped : ((b : WorldBBox) × (skipped_batch (page 1 100) ≡ skipped_batch b) × UnderOnePixel (screen_size b half.zoom)) ⊎ ((g : Bool) × (b : WorldBBox) × (skipped_batch (page 1 100) ≡ skipped_member g b)) → ⊥
 not_skipped (inl k) = let e = k.1 in let z : k.0 ≡ page 1 100 = cc in tall k.0 z k.2
@@ -234,7 +234,7 @@ abbrev once : ExactPlacement
 once = member_at identity again 0 0
 
 round_leads : LeadsTo circular 0 round_path (a_text 0 label once)
-round_leads = step (to_reference {n = 0} {i = 0} {c = circular_cell} refl (omega arith)) (step (through-member {n = 0} {column = 0} {row = 0} {r = again} refl (omega arith) (omega arith)) (step (to_text {n = 0} {i = 0} {c = circular_cell} refl (omega arith)) (at-text refl)))
+round_leads = step (to_reference {n = 0} {i = 0} {c = circular_cell} refl (omega arith)) (step (through_member_lem {n = 0} {column = 0} {row = 0} {r = again} refl (omega arith) (omega arith)) (step (to_text {n = 0} {i = 0} {c = circular_cell} refl (omega arith)) (at_text refl)))
 
 round_seen : InView (page 100 100) (a_text 0 label once)
 unfolding opened
@@ -295,7 +295,7 @@ abbrev late_dot : Item
 late_dot = a_point 0 dots 1 (member_at identity dot_grid 0 1)
 
 late_leads : LeadsTo dotted 0 late_path late_dot
-late_leads = step (to_reference {n = 0} {i = 0} {c = dotted_cell} refl (omega arith)) (step (through-member {n = 0} {column = 0} {row = 1} {r = dot_grid} refl (omega arith) (omega arith)) (at-point {j = 1} {x = dots} refl (omega arith)))
+late_leads = step (to_reference {n = 0} {i = 0} {c = dotted_cell} refl (omega arith)) (step (through_member_lem {n = 0} {column = 0} {row = 1} {r = dot_grid} refl (omega arith) (omega arith)) (at_point {j = 1} {x = dots} refl (omega arith)))
 
 late_seen : InView (page 100 100) late_dot
 unfolding opened
@@ -347,7 +347,7 @@ invented_when_full : (n : ℕ) → n ≡ max_load_proxies → DroppedWhenFull (i
 invented_when_full n full = (λ why label box e. all_listed n ∙ full, none_dropped n)
 
 invented_covers : (n : ℕ) → Covered labelled (see 0) label_path (a_text 0 label identity) (invented n)
-invented_covers n = here (within-dropped-proxy (box_is (page 100 100) (square_box (page 100 100) passes)) seen)
+invented_covers n = here (within_dropped_proxy (box_is (page 100 100) (square_box (page 100 100) passes)) seen)
   where
     passes : Yes (is_square_box (page 100 100))
     passes = unfold opened in tt

@@ -13,7 +13,7 @@ use Rattle.records.specs.declared.PreparedSource.TheVariants.{Geometry, Text, No
 use Rattle.records.specs.declared.PreparedReference.{PreparedReference}
 use Rattle.abstract_sheet.specs.Sheet.{CellRecord, Sheet}
 use Rattle.plan_rules.specs.Event.{Step, batch_at, text_at, node_at, reference_at, member}
-use Rattle.paths.specs.Path.{references, to-batch, to_text, to_node, to_reference, through-member}
+use Rattle.paths.specs.Path.{references, to_batch, to_text, to_node, to_reference, through_member_lem}
 use Rattle.cover.proofs.TagPaths.{TagLeads, on}
 
 module _ {P : Type 0} (member_at : P → PreparedReference → ℕ → ℕ → P) (S : Sheet) (origin : P) (root : ℕ) (Near : ℕ → ℕ → Placement → P → Type 0) where
@@ -31,7 +31,7 @@ module _ {P : Type 0} (member_at : P → PreparedReference → ℕ → ℕ → P
 
   pub stands_batch : (d : ℕ) (t : List Step) (n : ℕ) (c : CellRecord) (i : ℕ) (p : Placement) → Stands d t (Cell n) p → S.cell n ≡ some c → i < c.geometries.count
       → Stands d (batch_at i ∷ t) (Geometry (c.geometries.at i)) p
-  stands_batch d t n c i p h e l = record { exact = h.exact; led = on h.led (to-batch e l); near = h.near }
+  stands_batch d t n c i p h e l = record { exact = h.exact; led = on h.led (to_batch e l); near = h.near }
 
   pub stands_text : (d : ℕ) (t : List Step) (n : ℕ) (c : CellRecord) (i : ℕ) (p : Placement) → Stands d t (Cell n) p → S.cell n ≡ some c → i < c.texts.count
       → Stands d (text_at i ∷ t) (Text (c.texts.at i)) p
@@ -48,4 +48,4 @@ module _ {P : Type 0} (member_at : P → PreparedReference → ℕ → ℕ → P
   pub stands_member : Keeps → (d : ℕ) (t : List Step) (n : ℕ) (r : PreparedReference) (x y : ℕ) (p : Placement) → Stands (suc d) t (Reference n) p → S.reference n ≡ some r
       → x < r.grid.columns → y < r.grid.rows → Stands d (member x y ∷ t) r.source (p · grid_member_transform r.grid x y)
   stands_member keeps d t n r x y p h e x< y< =
-      record { exact = member_at h.exact r x y; led = on h.led (through-member e x< y<); near = keeps d (references t) p h.exact n r x y h.near e x< y< }
+      record { exact = member_at h.exact r x y; led = on h.led (through_member_lem e x< y<); near = keeps d (references t) p h.exact n r x y h.near e x< y< }

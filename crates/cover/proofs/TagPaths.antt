@@ -12,7 +12,7 @@ use Rattle.abstract_sheet.specs.Sheet.{Sheet}
 use Rattle.plan_rules.specs.Event.{Event, Step, batch_at, text_at, node_at, reference_at, member, point_at, encode}
 use Rattle.plan_rules.specs.Tape.{tape}
 use Rattle.totals.specs.Proxies.{Load, load_of, how_many}
-use Rattle.paths.specs.Path.{Path, references, Item, StepLeads, Leads, step, LeadsTo, Reaches, at-root, further}
+use Rattle.paths.specs.Path.{Path, references, Item, StepLeads, Leads, step, LeadsTo, Reaches, at_root, further}
 use Rattle.cover.specs.Trace.{path_of, with_paths, All, none_left, and_then, Any, here, before}
 
 -- every event with its tag, the newest first
@@ -61,7 +61,7 @@ module _ {P : Type 0} (member_at : P → PreparedReference → ℕ → ℕ → P
 
 module _ {P : Type 0} {member_at : P → PreparedReference → ℕ → ℕ → P} {S : Sheet} {origin : P} {root : ℕ} where
   pub tag_reaches : {t : List Step} {s : PreparedSource} {T : P} → TagLeads member_at S origin root t s T → Reaches member_at S origin root (path_of t) s T
-  tag_reaches start = at-root
+  tag_reaches start = at_root
   tag_reaches (on w k) = further (tag_reaches w) k
 
   -- the way from the root and a path from there are a path from the root

@@ -65,11 +65,11 @@ UnderOnePixel size = Yes (is_under_one_pixel size)
 module _ (S : Sheet) (q : Query) where
   -- "something skipped": "a member, or .. a batch, whose placed box the rules measure under one pixel in width and in height"
   pub data Skipped : Path → Event → Type 0 where
-    skipped-member : {p : Path} {n column row : ℕ} {T : ExactPlacement} {r : PreparedReference} {box : WorldBBox} (sourceBox : WorldBBox) → Reaches S q.root p (Reference n) T
+    skipped_member_lem : {p : Path} {n column row : ℕ} {T : ExactPlacement} {r : PreparedReference} {box : WorldBBox} (sourceBox : WorldBBox) → Reaches S q.root p (Reference n) T
         → S.reference n ≡ some r → r.source_bbox ≡ boxed sourceBox → column < r.grid.columns → row < r.grid.rows
         → IsBox box (place (member_at T r column row) (box_of sourceBox)) → UnderOnePixel (reference_screen_size box q.zoom (source_is_degenerate sourceBox))
         → Skipped (p ++ member column row ∷ []) (skipped_member (source_is_degenerate sourceBox) box)
-    skipped-batch : {p : Path} {n : ℕ} {T : ExactPlacement} {g : PreparedGeometry} {box : WorldBBox} → Reaches S q.root p (Geometry n) T → S.geometry n ≡ some g
+    skipped_batch_lem : {p : Path} {n : ℕ} {T : ExactPlacement} {g : PreparedGeometry} {box : WorldBBox} → Reaches S q.root p (Geometry n) T → S.geometry n ≡ some g
         → IsBox box (placed_batch g T) → UnderOnePixel (screen_size box q.zoom) → Skipped p (skipped_batch box)
 
   -- ---- covered
@@ -77,10 +77,10 @@ module _ (S : Sheet) (q : Query) where
   -- what an event, at the path where it happened, does for a path p to the item h
   pub data Covers (p : Path) (h : Item) : Path → Event → Type 0 where
     listed : {e : Event} → Lists h e → Covers p h p e
-    within-proxy : {place : Path} {why : Reason} {label : ℕ} {box : WorldBBox} {z : IntegerBox} → IsBox box z → WithinBox h z → Covers p h place (proxy why label box)
-    within-dropped-proxy : {place : Path} {why : Reason} {label : ℕ} {box : WorldBBox} {z : IntegerBox} → IsBox box z → WithinBox h z → Covers p h place (dropped_proxy why label box)
+    within_proxy : {place : Path} {why : Reason} {label : ℕ} {box : WorldBBox} {z : IntegerBox} → IsBox box z → WithinBox h z → Covers p h place (proxy why label box)
+    within_dropped_proxy : {place : Path} {why : Reason} {label : ℕ} {box : WorldBBox} {z : IntegerBox} → IsBox box z → WithinBox h z → Covers p h place (dropped_proxy why label box)
     -- "A path lies in something skipped if it leads through a member, or to a batch" that is skipped
-    in-skipped : {place : Path} {e : Event} (rest : Path) → Skipped place e → p ≡ place ++ rest → Covers p h place e
+    in_skipped : {place : Path} {e : Event} (rest : Path) → Skipped place e → p ≡ place ++ rest → Covers p h place e
 
   -- by some event of the plan
   abbrev pub Covered : Path → Item → Trace → Type 0

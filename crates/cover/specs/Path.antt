@@ -8,7 +8,7 @@ use Rattle.exact.specs.Placement.{ExactPlacement, identity, ◌∘◌}
 use Rattle.exact.specs.Member.{member_placement, grid_of}
 use Rattle.plan_rules.specs.Event.{Step}
 use Rattle.paths.specs.Path as paths
-pub use Rattle.paths.specs.Path.{Path, a_batch, a_text, a_point, to-batch, to_text, to_node, to_reference, through-member, at-batch, at-text, at-point, step, at-root, further}
+pub use Rattle.paths.specs.Path.{Path, a_batch, a_text, a_point, to_batch, to_text, to_node, to_reference, through_member_lem, at_batch, at_text, at_point, step, at_root, further}
 
 -- what a path leads to, at its exact placement
 abbrev pub Item : Type 0

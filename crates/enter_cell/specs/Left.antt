@@ -10,7 +10,7 @@ use Rattle.plan_rules.specs.declared.ScenePlan.{ScenePlan}
 use Rattle.plan_rules.specs.declared.Fixed.{Fixed}
 use Rattle.plan_rules.specs.Scratch.{open_place}
 use Rattle.plan_rules.specs.World.{world, ending, set_mark}
-use Rattle.plan_rules.specs.OnTape.{Given, Output, VisitReference, cellBody, visit_found_cell}
+use Rattle.plan_rules.specs.OnTape.{Given, Output, VisitReference, cell_body, visit_found_cell}
 use Rattle.enter_cell.specs.declared.Entered.{Entered}
 
 module _ {f : Fixed} (g : Given f) where
@@ -19,7 +19,7 @@ module _ {f : Fixed} (g : Given f) where
 
   -- its lists, and then the cell is closed; or nothing
   abbrev pub left_of_cell : VisitReference g → ℕ → CellRecord → Placement → Entered → Output → Output
-  left_of_cell on n c p r w = cond r.goes (set_mark (open_place f.counts.cells n) 0 (ending (cellBody g n c p r.bounds on w))) w
+  left_of_cell on n c p r w = cond r.goes (set_mark (open_place f.counts.cells n) 0 (ending (cell_body g n c p r.bounds on w))) w
 
 -- What the step promises of a cell by its box, from the output and marks (before) to those that it leaves: whatever a plan is given and the way to visit
 -- on, what is left to do is the visit from the step on.

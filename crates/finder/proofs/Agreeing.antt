@@ -12,7 +12,7 @@ use Rattle.check_sheet.specs.Count.{counts_of}
 use Rattle.finder.specs.Finder.{finder_of, belongs, starts_of}
 use Rattle.finder.proofs.Prefix.{Same, places_start, place_refutes}
 use Rattle.finder.proofs.ByKind.{Known}
-use Rattle.finder.proofs.Running.{advance, Running, Settled, running_start, settled_start, running-here, running-next, settled_before, settled_end}
+use Rattle.finder.proofs.Running.{advance, Running, Settled, running_start, settled_start, running_here, running_next, settled_before, settled_end}
 
 module _ (s f : List ℕ) where
   -- a list agrees so far: the records xs are left, and p are the places of the kinds
@@ -26,12 +26,12 @@ module _ (s f : List ℕ) where
   module _ (p : List ℕ) (at : ℕ) (xs : List ℕ) (known : Known (kind_at s at)) (h : Agrees p (at ∷ xs)) where
     -- the record's place is the finder's
     here : (get_or p (kind_at s at) 0 < length (finder_of s)) × (get_or (finder_of s) (get_or p (kind_at s at) 0) 0 ≡ at)
-    here = running-here s p at xs known h.running
+    here = running_here s p at xs known h.running
 
-    pub agrees-next : get_or p (kind_at s at) 0 < length f → get_or f (get_or p (kind_at s at) 0) 0 ≡ at → Agrees (advance p (kind_at s at)) xs
-    agrees-next within same =
+    pub agrees_next : get_or p (kind_at s at) 0 < length f → get_or f (get_or p (kind_at s at) 0) 0 ≡ at → Agrees (advance p (kind_at s at)) xs
+    agrees_next within same =
         record {
-          running = running-next s p at xs known h.running;
+          running = running_next s p at xs known h.running;
           settled = λ i below after.
               elim (ℕ_discrete i (get_or p (kind_at s at) 0)) [
                 | yes e ↦ subst (Same f (finder_of s)) (sym e) (record { within = within; same = same ∙ sym here.1 })
@@ -40,9 +40,9 @@ module _ (s f : List ℕ) where
         }
 
     -- a place that is missing or has another offset: the list does not belong
-    pub missing-place : length f ≤ get_or p (kind_at s at) 0 → belongs f s ≡ false
+    pub missing_place : length f ≤ get_or p (kind_at s at) 0 → belongs f s ≡ false
     unfolding belongs
-    missing-place short = place_refutes f (finder_of s) _ here.0 (λ same. absurd (omega (arith, same.within)))
+    missing_place short = place_refutes f (finder_of s) _ here.0 (λ same. absurd (omega (arith, same.within)))
 
     pub other_offset : (get_or f (get_or p (kind_at s at) 0) 0 ≡ at → ⊥) → belongs f s ≡ false
     unfolding belongs

@@ -11,7 +11,7 @@ use Rattle.walk.specs.declared.Found.TheVariants.{At}
 use Rattle.walk.proofs.Finding.{found_at, found_below}
 use Rattle.abstract_sheet.specs.Sheet.{kind_number}
 use Rattle.finder.specs.Statements.{HasPlace, EveryRecordHasItsPlace}
-use Rattle.finder.proofs.Stands.{stands-within, stands-nth}
+use Rattle.finder.proofs.Stands.{stands_within, stands_nth}
 use Rattle.finder.proofs.ByKind.{Known, kind_known, kind_starts}
 
 nth : (xs : List ℕ) (n at : ℕ) → get_elem? xs n ≡ some at → get_or xs n 0 ≡ at
@@ -24,8 +24,8 @@ known_place s kind n at known e =
     let stands = kind_starts s kind known in
     let below = found_below s kind n at e in
     record {
-      within = stands-within _ _ (of_kind s kind) stands n below;
-      holds = stands-nth _ _ (of_kind s kind) stands n below ∙ nth (of_kind s kind) n at (found_at s kind n at e);
+      within = stands_within _ _ (of_kind s kind) stands n below;
+      holds = stands_nth _ _ (of_kind s kind) stands n below ∙ nth (of_kind s kind) n at (found_at s kind n at e);
     }
 
 pub every_record_has_its_place : EveryRecordHasItsPlace

@@ -21,7 +21,7 @@ use Rattle.check_record.proofs.Facts.Lengths.{shape_known}
 use Rattle.check_sheet.specs.Count.{counts_of}
 use Rattle.look_up.specs.Places.{start_for}
 use Rattle.finder.specs.Finder.{finder_of, starts_of}
-use Rattle.finder.proofs.Stands.{Stands, stands-first, stands-next}
+use Rattle.finder.proofs.Stands.{Stands, stands_first, stands_next}
 use Rattle.finder.proofs.ByKind.{Known, starts_at, kind_starts, finder_length}
 
 -- the places behind a record of a kind
@@ -29,11 +29,11 @@ abbrev pub advance : List ℕ → ℕ → List ℕ
 advance p k = set p k (get_or p k 0 + 1)
 
 advanced : (p : List ℕ) (k j : ℕ) → k < length p → get_or (advance p k) j 0 ≡ get_or p j 0 + cond (eqb k j) 1 0
-advanced p k j h = by-test (eqb k j) refl
+advanced p k j h = by_test (eqb k j) refl
   where
-    by-test : (b : Bool) → eqb k j ≡ b → get_or (advance p k) j 0 ≡ get_or p j 0 + cond b 1 0
-    by-test true e = subst (λ (i : ℕ). get_or (advance p k) i 0 ≡ get_or p i 0 + 1) (eqb-true k j e) (get_or-set_same p k _ 0 h)
-    by-test false e = let q : get_or p j 0 ≡ get_or p j 0 + 0 = omega arith in get_or-set_other p k j _ 0 (λ same. eqb-false k j e (sym same)) ∙ q
+    by_test : (b : Bool) → eqb k j ≡ b → get_or (advance p k) j 0 ≡ get_or p j 0 + cond b 1 0
+    by_test true e = subst (λ (i : ℕ). get_or (advance p k) i 0 ≡ get_or p i 0 + 1) (eqb-true k j e) (get_or-set_same p k _ 0 h)
+    by_test false e = let q : get_or p j 0 ≡ get_or p j 0 + 0 = omega arith in get_or-set_other p k j _ 0 (λ same. eqb-false k j e (sym same)) ∙ q
 
 module _ (s : List ℕ) where
   -- the places of the kinds where the records xs are left
@@ -77,9 +77,9 @@ module _ (s : List ℕ) where
 
   module _ (p : List ℕ) (at : ℕ) (xs : List ℕ) (known : Known (kind_at s at)) (run : Running p (at ∷ xs)) where
     -- the place of the next record of its kind is its own
-    pub running-here : (get_or p (kind_at s at) 0 < length (finder_of s)) × (get_or (finder_of s) (get_or p (kind_at s at) 0) 0 ≡ at)
+    pub running_here : (get_or p (kind_at s at) 0 < length (finder_of s)) × (get_or (finder_of s) (get_or p (kind_at s at) 0) 0 ≡ at)
     unfolding of_kind_in
-    running-here = stands-first _ _ at (of_kind_in s (kind_at s at) xs) (subst (Stands (finder_of s) _) here (run.left (kind_at s at) known))
+    running_here = stands_first _ _ at (of_kind_in s (kind_at s at) xs) (subst (Stands (finder_of s) _) here (run.left (kind_at s at) known))
       where
         here : of_kind_in s (kind_at s at) (at ∷ xs) ≡ at ∷ of_kind_in s (kind_at s at) xs
         here = rw (eq-eqb (kind_at s at) (kind_at s at) refl)
@@ -87,30 +87,30 @@ module _ (s : List ℕ) where
     within : kind_at s at < length p
     within = omega (arith, run.six)
 
-    pub running-next : Running (advance p (kind_at s at)) xs
+    pub running_next : Running (advance p (kind_at s at)) xs
     unfolding of_kind_in
-    running-next =
+    running_next =
         record {
           six = length-set p _ _ ∙ run.six;
-          left = λ k known-k. subst (λ (place : ℕ). Stands (finder_of s) place (of_kind_in s k xs)) (sym (advanced p (kind_at s at) k within)) (by-test k (eqb (kind_at s at) k) (run.left k known-k));
+          left = λ k known-k. subst (λ (place : ℕ). Stands (finder_of s) place (of_kind_in s k xs)) (sym (advanced p (kind_at s at) k within)) (by_test k (eqb (kind_at s at) k) (run.left k known-k));
         }
       where
-        by-test : (k : ℕ) (b : Bool) → Stands (finder_of s) (get_or p k 0) (cond b (at ∷ of_kind_in s k xs) (of_kind_in s k xs)) → Stands (finder_of s) (get_or p k 0 + cond b 1 0) (of_kind_in s k xs)
-        by-test k true h = stands-next _ _ at (of_kind_in s k xs) h
-        by-test k false h = let q : get_or p k 0 ≡ get_or p k 0 + 0 = omega arith in subst (λ (place : ℕ). Stands (finder_of s) place (of_kind_in s k xs)) q h
+        by_test : (k : ℕ) (b : Bool) → Stands (finder_of s) (get_or p k 0) (cond b (at ∷ of_kind_in s k xs) (of_kind_in s k xs)) → Stands (finder_of s) (get_or p k 0 + cond b 1 0) (of_kind_in s k xs)
+        by_test k true h = stands_next _ _ at (of_kind_in s k xs) h
+        by_test k false h = let q : get_or p k 0 ≡ get_or p k 0 + 0 = omega arith in subst (λ (place : ℕ). Stands (finder_of s) place (of_kind_in s k xs)) q h
 
     -- another place that is settled behind the record was so before it
     pub settled_before : (i : ℕ) → (i ≡ get_or p (kind_at s at) 0 → ⊥) → Settled (advance p (kind_at s at)) xs i → Settled p (at ∷ xs) i
     settled_before i other h k known-k low =
         let next = advanced p (kind_at s at) k within in
         let count = count_step s k at xs in
-        let reached = by-test (eqb (kind_at s at) k) refl in
+        let reached = by_test (eqb (kind_at s at) k) refl in
         let after = h k known-k (omega arith) in
         omega arith
       where
-        by-test : (b : Bool) → eqb (kind_at s at) k ≡ b → get_or p k 0 + cond b 1 0 ≤ i
-        by-test true e = let place : get_or p (kind_at s at) 0 ≡ get_or p k 0 = ap (λ (j : ℕ). get_or p j 0) (eqb-true _ _ e) in omega arith
-        by-test false e = omega arith
+        by_test : (b : Bool) → eqb (kind_at s at) k ≡ b → get_or p k 0 + cond b 1 0 ≤ i
+        by_test true e = let place : get_or p (kind_at s at) 0 ≡ get_or p k 0 = ap (λ (j : ℕ). get_or p j 0) (eqb-true _ _ e) in omega arith
+        by_test false e = omega arith
 
   -- ---- Behind the last record
 

@@ -16,7 +16,7 @@ use Rattle.abstract_sheet.proofs.Lookup.{same_sheet}
 use Rattle.check_sheet.specs.Count.{counts_of}
 use Rattle.look_up.specs.Places.{start_for}
 use Rattle.look_up.specs.Look.{look_in, look}
-use Rattle.look_up.proofs.Looking.{look_hit, look_none, look-walks, look-reads}
+use Rattle.look_up.proofs.Looking.{look_hit, look_none, look_walks, look_reads}
 use Rattle.finder.specs.Finder.{finder_of, belongs}
 use Rattle.finder.specs.Statements.{OwnFinderGivesTheSheet, NoFinderGivesTheSheet}
 use Rattle.finder.proofs.Prefix.{starts_place}
@@ -40,8 +40,8 @@ module _ (s f : List ℕ) (own : belongs f s ≡ true) where
   look_finds : (kind : Kind) (n : ℕ) → look s f (counts_of s) (kind_number kind) n ≡ find s (kind_number kind) n
   look_finds kind n =
       elim (ℕ_discrete (length f) 0) [
-        | yes h ↦ look-walks f (counts_of s) (kind_number kind) n s h
-        | no h ↦ look-reads f (counts_of s) (kind_number kind) n s h ∙ look_in_finds (kind_number kind) n (kind_known kind)
+        | yes h ↦ look_walks f (counts_of s) (kind_number kind) n s h
+        | no h ↦ look_reads f (counts_of s) (kind_number kind) n s h ∙ look_in_finds (kind_number kind) n (kind_known kind)
       ]
 
 pub own_finder_gives_the_sheet : OwnFinderGivesTheSheet
@@ -50,4 +50,4 @@ own_finder_gives_the_sheet s f own = same_sheet (look s f (counts_of s)) (find s
 
 pub no_finder_gives_the_sheet : NoFinderGivesTheSheet
 unfolding sheet_of
-no_finder_gives_the_sheet s c = same_sheet (look s [] c) (find s) s (λ kind n. look-walks [] c (kind_number kind) n s refl)
+no_finder_gives_the_sheet s c = same_sheet (look s [] c) (find s) s (λ kind n. look_walks [] c (kind_number kind) n s refl)

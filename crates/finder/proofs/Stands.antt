@@ -18,17 +18,17 @@ behind l place xs more e = sym (drop-drop (length xs) place l) ∙ ap (drop (len
 
 module _ (l : List ℕ) (place : ℕ) where
   module _ (xs : List ℕ) (h : Stands l place xs) (i : ℕ) (below : i < length xs) where
-    pub stands-within : place + i < length l
-    stands-within = omega (arith, length-drop place l, ap length h.there, length-append xs h.more)
+    pub stands_within : place + i < length l
+    stands_within = omega (arith, length-drop place l, ap length h.there, length-append xs h.more)
 
-    pub stands-nth : get_or l (place + i) 0 ≡ get_or xs i 0
-    stands-nth = sym (get_or-drop place l i 0) ∙ ap (λ (m : List ℕ). get_or m i 0) h.there ∙ get_or-append xs h.more 0 i below
+    pub stands_nth : get_or l (place + i) 0 ≡ get_or xs i 0
+    stands_nth = sym (get_or-drop place l i 0) ∙ ap (λ (m : List ℕ). get_or m i 0) h.there ∙ get_or-append xs h.more 0 i below
 
   module _ (x : ℕ) (xs : List ℕ) (h : Stands l place (x ∷ xs)) where
-    pub stands-first : (place < length l) × (get_or l place 0 ≡ x)
-    stands-first =
+    pub stands_first : (place < length l) × (get_or l place 0 ≡ x)
+    stands_first =
         let q : place + 0 ≡ place = omega arith in
-        subst (λ (i : ℕ). (i < length l) × (get_or l i 0 ≡ x)) q (stands-within (x ∷ xs) h 0 (omega arith), stands-nth (x ∷ xs) h 0 (omega arith))
+        subst (λ (i : ℕ). (i < length l) × (get_or l i 0 ≡ x)) q (stands_within (x ∷ xs) h 0 (omega arith), stands_nth (x ∷ xs) h 0 (omega arith))
 
-    pub stands-next : Stands l (place + 1) xs
-    stands-next = record { more = h.more; there = behind l place (x ∷ []) (xs ++ h.more) h.there }
+    pub stands_next : Stands l (place + 1) xs
+    stands_next = record { more = h.more; there = behind l place (x ∷ []) (xs ++ h.more) h.there }

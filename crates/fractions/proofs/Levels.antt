@@ -84,16 +84,16 @@ NearAtLevel n p T = NearPlacement p T (axis_error n) (axis_bound n) (shift_error
 
 pub identity_near : NearAtLevel 0 IDENTITY identity
 unfolding IDENTITY is_finite axis_bound axis_error shift_bound shift_error
-identity_near = record { xx = one; xy = zero-axis; yx = zero-axis; yy = one; tx = zero-shift; ty = zero-shift }
+identity_near = record { xx = one; xy = zero_axis; yx = zero_axis; yy = one; tx = zero_shift; ty = zero_shift }
   where
     one : Approximates one_float (value_of one_float) 0 1
     one = approx_own one_float 1 tt (record { above = lit≤ tt; below = lit≤ tt })
 
-    zero-axis : Approximates zero_float (value_of zero_float) 0 1
-    zero-axis = approx_own zero_float 1 tt (record { above = lit≤ tt; below = lit≤ tt })
+    zero_axis : Approximates zero_float (value_of zero_float) 0 1
+    zero_axis = approx_own zero_float 1 tt (record { above = lit≤ tt; below = lit≤ tt })
 
-    zero-shift : Approximates zero_float (value_of zero_float) 0 0
-    zero-shift = approx_own zero_float 0 tt (record { above = lit≤ tt; below = lit≤ tt })
+    zero_shift : Approximates zero_float (value_of zero_float) 0 0
+    zero_shift = approx_own zero_float 0 tt (record { above = lit≤ tt; below = lit≤ tt })
 
 -- through one reference more
 pub member_level : (n : ℕ) → n < most_bounded → (p : Placement) (T : FractionPlacement) → NearAtLevel n p T → (g : Grid) → SlantedGrid g → (column row : ℕ) → column < g.columns → row < g.rows

@@ -27,40 +27,40 @@ module _ (g : Grid) (h : SlantedGrid g) where
   sin_near = number_near 1 g.sin h.sin
 
   module _ (column row : ℕ) (c≤ : column ≤ 2 ^ 10) (r≤ : row ≤ 2 ^ 10) where
-    along-near : (a b : Float) → FloatWithin (2 ^ 24) a → FloatWithin (2 ^ 24) b
+    along_near : (a b : Float) → FloatWithin (2 ^ 24) a → FloatWithin (2 ^ 24) b
         → Approximates (a ⊗ f64_from column ⊕ b ⊗ f64_from row) (value_of a ⊠ fraction column ⊞ value_of b ⊠ fraction row) offset_error (2 ^ 35)
-    along-near a b p q =
+    along_near a b p q =
         linear_near a b (f64_from column) (f64_from row) (value_of a) (value_of b) (fraction column) (fraction row) 0 (2 ^ 24) 0 (2 ^ 10) (number_near (2 ^ 24) a p) (number_near (2 ^ 24) b q)
         (natural_near column (2 ^ 10) c≤ (lit≤ tt)) (natural_near row (2 ^ 10) r≤ (lit≤ tt)) (lit≤ tt) (lit≤ tt) (lit≤ tt)
 
     offset_near : NearVector (offset g column row) (exactly.offset g column row) offset_error (2 ^ 35)
     unfolding offset
     offset_near = record {
-      x = along-near g.spacing_x.x g.spacing_y.x h.spacing_x.x h.spacing_y.x;
-      y = along-near g.spacing_x.y g.spacing_y.y h.spacing_x.y h.spacing_y.y;
+      x = along_near g.spacing_x.x g.spacing_y.x h.spacing_x.x h.spacing_y.x;
+      y = along_near g.spacing_x.y g.spacing_y.y h.spacing_x.y h.spacing_y.y;
     }
 
     -- the offset's y, times cos or sin
-    times-near : (a : Float) → Approximates a (value_of a) 0 1
+    times_near : (a : Float) → Approximates a (value_of a) 0 1
         → Approximates ((offset g column row).y ⊗ a) ((exactly.offset g column row).y ⊠ value_of a) (product_error offset_error (2 ^ 35) 0 1) (2 ^ 35)
-    times-near a k = mul_near (offset g column row).y a (exactly.offset g column row).y (value_of a) offset_error (2 ^ 35) 0 1 offset_near.y k (lit≤ tt) (lit≤ tt) (lit≤ tt)
+    times_near a k = mul_near (offset g column row).y a (exactly.offset g column row).y (value_of a) offset_error (2 ^ 35) 0 1 offset_near.y k (lit≤ tt) (lit≤ tt) (lit≤ tt)
 
     -- the offset's x, times sin or cos, and that: in one step
-    fused-near : (a z : Float) (w : Fraction) → Approximates a (value_of a) 0 1 → Approximates z w (product_error offset_error (2 ^ 35) 0 1) (2 ^ 35)
+    fused_near : (a z : Float) (w : Fraction) → Approximates a (value_of a) 0 1 → Approximates z w (product_error offset_error (2 ^ 35) 0 1) (2 ^ 35)
         → Approximates (fma binary64 (offset g column row).x a z) ((exactly.offset g column row).x ⊠ value_of a ⊞ w) rotated_error (2 ^ 36)
-    fused-near a z w k r =
+    fused_near a z w k r =
         fma_near (offset g column row).x a (exactly.offset g column row).x (value_of a) offset_error (2 ^ 35) 0 1 offset_near.x k z w (product_error offset_error (2 ^ 35) 0 1) (2 ^ 35) r
         (lit≤ tt) (lit≤ tt) (lit≤ tt)
 
-    rotated-near : NearVector (rotated (offset g column row) g.cos g.sin) (exactly.rotated (exactly.offset g column row) (value_of g.cos) (value_of g.sin)) rotated_error (2 ^ 36)
+    rotated_near : NearVector (rotated (offset g column row) g.cos g.sin) (exactly.rotated (exactly.offset g column row) (value_of g.cos) (value_of g.sin)) rotated_error (2 ^ 36)
     unfolding rotated
-    rotated-near =
+    rotated_near =
         let y = (offset g column row).y in
         let v = (exactly.offset g column row).y in
         record {
-          x = fused-near g.cos (neg (y ⊗ g.sin)) (opposite (v ⊠ value_of g.sin)) cos_near
-              (neg_near (y ⊗ g.sin) (v ⊠ value_of g.sin) (product_error offset_error (2 ^ 35) 0 1) (2 ^ 35) (times-near g.sin sin_near));
-          y = fused-near g.sin (y ⊗ g.cos) (v ⊠ value_of g.cos) sin_near (times-near g.cos cos_near);
+          x = fused_near g.cos (neg (y ⊗ g.sin)) (opposite (v ⊠ value_of g.sin)) cos_near
+              (neg_near (y ⊗ g.sin) (v ⊠ value_of g.sin) (product_error offset_error (2 ^ 35) 0 1) (2 ^ 35) (times_near g.sin sin_near));
+          y = fused_near g.sin (y ⊗ g.cos) (v ⊠ value_of g.cos) sin_near (times_near g.cos cos_near);
         }
 
   -- a coordinate of an axis, times the magnification
@@ -81,7 +81,7 @@ module _ (g : Grid) (h : SlantedGrid g) where
   unfolding grid_member_transform
   member_near column row c≤ r≤ =
       let y = y_axis_near g.x_reflection in
-      let turned = rotated-near column row c≤ r≤ in
+      let turned = rotated_near column row c≤ r≤ in
       record {
         xx = scaled_near g.cos (value_of g.cos) cos_near;
         xy = scaled_near g.sin (value_of g.sin) sin_near;

@@ -44,16 +44,16 @@ pub record NearPlacement (p : Placement) (T : FractionPlacement) (E B G D : ℕ)
 
 module _ (p : Placement) (T : FractionPlacement) (E B G D : ℕ) (h : NearPlacement p T E B G D) where
   module _ (v : DVec2) (o : FractionVector) (F C : ℕ) (k : NearVector v o F C) (small : E * F ≤ 2 ^ 53) where
-    vector-near : linear_error E B F C ≤ 2 ^ 53 → B * C + B * C < 2 ^ 60 → NearVector (transform_vector2 p v) (linear T o) (linear_error E B F C) (B * C + B * C)
+    vector_near : linear_error E B F C ≤ 2 ^ 53 → B * C + B * C < 2 ^ 60 → NearVector (transform_vector2 p v) (linear T o) (linear_error E B F C) (B * C + B * C)
     unfolding transform_vector2
-    vector-near e s = record {
+    vector_near e s = record {
       x = linear_near p.xx p.yx v.x v.y T.x_axis.x T.y_axis.x o.x o.y E B F C h.xx h.yx k.x k.y small e s;
       y = linear_near p.xy p.yy v.x v.y T.x_axis.y T.y_axis.y o.x o.y E B F C h.xy h.yy k.x k.y small e s;
     }
 
-    pub point-near : linear_error E B F C + G ≤ 2 ^ 53 → B * C + B * C + D < 2 ^ 60 → NearVector (transform_point2 p v) (move T o) (move_error E B F C G D) (B * C + B * C + D)
+    pub point_near : linear_error E B F C + G ≤ 2 ^ 53 → B * C + B * C + D < 2 ^ 60 → NearVector (transform_point2 p v) (move T o) (move_error E B F C G D) (B * C + B * C + D)
     unfolding transform_point2 transform_vector2
-    point-near e s = record {
+    point_near e s = record {
       x = move_near p.xx p.yx v.x v.y T.x_axis.x T.y_axis.x o.x o.y E B F C h.xx h.yx k.x k.y small p.tx T.translation.x G D h.tx e s;
       y = move_near p.xy p.yy v.x v.y T.x_axis.y T.y_axis.y o.x o.y E B F C h.xy h.yy k.x k.y small p.ty T.translation.y G D h.ty e s;
     }
@@ -64,7 +64,7 @@ module _ (p : Placement) (T : FractionPlacement) (E B G D : ℕ) (h : NearPlacem
       → NearPlacement (p · c) (T ∘ C) (linear_error E B E' B') (B * B' + B * B') (move_error E B G' D' G D) (B * D' + B * D' + D)
   unfolding ◌·◌
   product_near c C E' B' G' D' k small e s small' e' s' =
-      let x = vector-near (vec c.xx c.xy) C.x_axis E' B' (record { x = k.xx; y = k.xy }) small e s in
-      let y = vector-near (vec c.yx c.yy) C.y_axis E' B' (record { x = k.yx; y = k.yy }) small e s in
-      let t = point-near (vec c.tx c.ty) C.translation G' D' (record { x = k.tx; y = k.ty }) small' e' s' in
+      let x = vector_near (vec c.xx c.xy) C.x_axis E' B' (record { x = k.xx; y = k.xy }) small e s in
+      let y = vector_near (vec c.yx c.yy) C.y_axis E' B' (record { x = k.yx; y = k.yy }) small e s in
+      let t = point_near (vec c.tx c.ty) C.translation G' D' (record { x = k.tx; y = k.ty }) small' e' s' in
       record { xx = x.x; xy = x.y; yx = y.x; yy = y.y; tx = t.x; ty = t.y }

@@ -9,7 +9,7 @@ use Rattle.walk.specs.declared.Found.{Found}
 use Rattle.walk.specs.declared.Found.TheVariants.{At, Nothing}
 use Rattle.walk.specs.Find.{find}
 use Rattle.abstract_sheet.specs.Sheet.{read, Kind, kind_number, item_at, item}
-use Rattle.abstract_sheet.proofs.Lookup.{item-read-by}
+use Rattle.abstract_sheet.proofs.Lookup.{item_read_by}
 use Rattle.check_sheet.specs.declared.Counts.{Counts}
 use Rattle.look_up.specs.Places.{count_for, start_for}
 use Rattle.look_up.specs.Look.{placed, look_in, look, sheet_with}
@@ -21,24 +21,24 @@ module _ (f : List ℕ) (c : Counts) (kind n : ℕ) where
     unfolding look_in placed
     look_hit h = rw (lt-ltb _ _ within, sym at_place, lt-ltb _ _ h)
 
-    pub look-past : length f ≤ place → look_in f c kind n ≡ Nothing
+    pub look_past : length f ≤ place → look_in f c kind n ≡ Nothing
     unfolding look_in placed
-    look-past h = rw (lt-ltb _ _ within, sym at_place, le-ltb _ _ h)
+    look_past h = rw (lt-ltb _ _ within, sym at_place, le-ltb _ _ h)
 
   pub look_none : count_for c kind ≤ n → look_in f c kind n ≡ Nothing
   unfolding look_in
   look_none h = rw (le-ltb _ _ h)
 
   module _ (s : List ℕ) where
-    pub look-walks : length f ≡ 0 → look s f c kind n ≡ find s kind n
+    pub look_walks : length f ≡ 0 → look s f c kind n ≡ find s kind n
     unfolding look
-    look-walks h = rw (eq-eqb _ _ h)
+    look_walks h = rw (eq-eqb _ _ h)
 
-    pub look-reads : (length f ≡ 0 → ⊥) → look s f c kind n ≡ look_in f c kind n
+    pub look_reads : (length f ≡ 0 → ⊥) → look s f c kind n ≡ look_in f c kind n
     unfolding look
-    look-reads h = rw (ne_eqb _ _ h)
+    look_reads h = rw (ne_eqb _ _ h)
 
 -- what a sheet has at a number is what is read where the look-up found it
 pub item_looked : (kind : Kind) (s f : List ℕ) (c : Counts) (n : ℕ) {found told : Found} → found ≡ look s f c (kind_number kind) n → found ≡ told
     → item kind (sheet_with s f c) n ≡ read (item_at kind s) told
-item_looked kind s f c n looked told = item-read-by (look s f c) kind s n (sym looked ∙ told)
+item_looked kind s f c n looked told = item_read_by (look s f c) kind s n (sym looked ∙ told)

@@ -12,18 +12,18 @@ use Rattle.plan_rules.specs.declared.ScenePlan.{ScenePlan}
 use Rattle.plan_rules.specs.declared.Fixed.{Fixed}
 use Rattle.plan_rules.specs.DrawUnits.{reference_draw_units}
 use Rattle.plan_rules.specs.World.{world}
-use Rattle.plan_rules.specs.OnTape.{Given, Output, VisitSource, visitCountedReference, visitSourcedReference}
+use Rattle.plan_rules.specs.OnTape.{Given, Output, VisitSource, visit_counted_reference, visit_sourced_reference}
 use Rattle.open_reference.specs.declared.Opened.{Opened}
 
 module _ {f : Fixed} (g : Given f) where
   abbrev pub found_reference : VisitSource g → ℕ → PreparedReference → Placement → Output → Output
-  found_reference on depth r p w = visitSourcedReference g on depth r p r.source_bbox w
+  found_reference on depth r p w = visit_sourced_reference g on depth r p r.source_bbox w
 
   -- its draw units, and what follows from them; or nothing
   abbrev pub left_of_reference : VisitSource g → ℕ → PreparedReference → Placement → Opened → Output → Output
   left_of_reference on depth r p o w =
       cond o.goes
-      (visitCountedReference g on depth r p o.source_bbox o.world_bbox (reference_draw_units g.sheet f.counts.cells depth r w.counts w.marks) w)
+      (visit_counted_reference g on depth r p o.source_bbox o.world_bbox (reference_draw_units g.sheet f.counts.cells depth r w.counts w.marks) w)
       w
 
 -- What the step promises: whatever a plan is given and the way to visit on, what is left to do is the visit from the step on.

@@ -41,14 +41,14 @@ module _ (s : List ℕ) (c : Counts) (sound : check_sheet s ≡ checked.Sound c)
   places_taken = places_are_the_counts s ∙ sym (counted ∙ ap (λ (x : Counts). start_for x 5 + count_for x 5) (sound_counts s c sound))
 
   module _ (f : List ℕ) where
-    pub opened-short : length f < places → opening_of s f ≡ opening (NoRoom places) (replicate (length f) 0)
-    opened-short h =
+    pub opened_short : length f < places → opening_of s f ≡ opening (NoRoom places) (replicate (length f) 0)
+    opened_short h =
         opening_by s f (checked.Sound c) sound
         ∙ short (finder_of s) f (omega (arith, places_taken))
         ∙ ap (λ (n : ℕ). opening (NoRoom n) (replicate (length f) 0)) places_taken
 
-    pub opened-filled : places ≤ length f → opening_of s f ≡ opening (Open places) (fronted (finder_of s) f)
-    opened-filled h =
+    pub opened_filled : places ≤ length f → opening_of s f ≡ opening (Open places) (fronted (finder_of s) f)
+    opened_filled h =
         opening_by s f (checked.Sound c) sound
         ∙ long (finder_of s) f (omega (arith, places_taken))
         ∙ ap (λ (n : ℕ). opening (Open n) (fronted (finder_of s) f)) places_taken

@@ -11,7 +11,7 @@ use Rattle.walk.specs.Offsets.{kind_at, offsets}
 use Rattle.check_sheet.specs.Count.{counts_of}
 use Rattle.finder.specs.Finder.{finder_of, starts_of}
 use Rattle.finder.proofs.ByKind.{Known}
-use Rattle.finder.proofs.Running.{advance, Running, Settled, running_start, settled_start, running-here, running-next, settled_before, settled_end}
+use Rattle.finder.proofs.Running.{advance, Running, Settled, running_start, settled_start, running_here, running_next, settled_before, settled_end}
 
 -- ---- A list with another at its front
 
@@ -41,24 +41,24 @@ module _ (s f₀ : List ℕ) where
   module _ (room : length (finder_of s) ≤ length f₀) where
     module _ (f p : List ℕ) (at : ℕ) (xs : List ℕ) (known : Known (kind_at s at)) (h : Fills s f₀ f p (at ∷ xs)) where
       here : (get_or p (kind_at s at) 0 < length (finder_of s)) × (get_or (finder_of s) (get_or p (kind_at s at) 0) 0 ≡ at)
-      here = running-here s p at xs known h.running
+      here = running_here s p at xs known h.running
 
       -- the record's place is within the list
-      pub fills-within : get_or p (kind_at s at) 0 < length f
-      fills-within = omega (arith, here.0, h.long)
+      pub fills_within : get_or p (kind_at s at) 0 < length f
+      fills_within = omega (arith, here.0, h.long)
 
-      pub fills-next : Fills s f₀ (set f (get_or p (kind_at s at) 0) at) (advance p (kind_at s at)) xs
-      fills-next =
+      pub fills_next : Fills s f₀ (set f (get_or p (kind_at s at) 0) at) (advance p (kind_at s at)) xs
+      fills_next =
           record {
-            running = running-next s p at xs known h.running;
+            running = running_next s p at xs known h.running;
             long = length-set f _ at ∙ h.long;
             settled = λ i after.
                 elim (ℕ_discrete i (get_or p (kind_at s at) 0)) [
                   | yes e ↦ subst (λ (j : ℕ). get_or (set f (get_or p (kind_at s at) 0) at) j 0 ≡ get_or (fronted (finder_of s) f₀) j 0) (sym e)
-                      (get_or-set_same f _ at 0 fills-within ∙ sym (get_or-append (finder_of s) _ 0 _ here.0 ∙ here.1))
+                      (get_or-set_same f _ at 0 fills_within ∙ sym (get_or-append (finder_of s) _ 0 _ here.0 ∙ here.1))
                   | no e ↦ get_or-set_other f _ i at 0 e ∙ h.settled i (settled_before s p at xs known h.running i e after)
                 ];
           }
 
-    pub fills-end : (f p : List ℕ) → Fills s f₀ f p [] → f ≡ fronted (finder_of s) f₀
-    fills-end f p h = ext_get_or 0 f (fronted (finder_of s) f₀) (h.long ∙ sym (length_fronted (finder_of s) f₀ room)) (λ i below. h.settled i (settled_end s p i))
+    pub fills_end : (f p : List ℕ) → Fills s f₀ f p [] → f ≡ fronted (finder_of s) f₀
+    fills_end f p h = ext_get_or 0 f (fronted (finder_of s) f₀) (h.long ∙ sym (length_fronted (finder_of s) f₀ room)) (λ i below. h.settled i (settled_end s p i))

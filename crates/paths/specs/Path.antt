@@ -42,18 +42,18 @@ module _ {P : Type 0} (member_at : P → PreparedReference → ℕ → ℕ → P
   -- One step leads from a source at a placement to the next. A cell's lists give a list place; a reference's member gives column and row, and so an inner
   -- reference, or an item that a reference holds directly, is reached by the member's step alone.
   pub data StepLeads : PreparedSource → P → Step → PreparedSource → P → Type 0 where
-    to-batch : {n i : ℕ} {T : P} {c : CellRecord} → S.cell n ≡ some c → i < c.geometries.count → StepLeads (Cell n) T (batch_at i) (Geometry (c.geometries.at i)) T
-    to-text : {n i : ℕ} {T : P} {c : CellRecord} → S.cell n ≡ some c → i < c.texts.count → StepLeads (Cell n) T (text_at i) (Text (c.texts.at i)) T
-    to-node : {n i : ℕ} {T : P} {c : CellRecord} → S.cell n ≡ some c → i < c.nodes.count → StepLeads (Cell n) T (node_at i) (Node (c.nodes.at i)) T
-    to-reference : {n i : ℕ} {T : P} {c : CellRecord} → S.cell n ≡ some c → i < c.references.count → StepLeads (Cell n) T (reference_at i) (Reference (c.references.at i)) T
-    through-member : {n column row : ℕ} {T : P} {r : PreparedReference} → S.reference n ≡ some r → column < r.grid.columns → row < r.grid.rows
+    to_batch : {n i : ℕ} {T : P} {c : CellRecord} → S.cell n ≡ some c → i < c.geometries.count → StepLeads (Cell n) T (batch_at i) (Geometry (c.geometries.at i)) T
+    to_text : {n i : ℕ} {T : P} {c : CellRecord} → S.cell n ≡ some c → i < c.texts.count → StepLeads (Cell n) T (text_at i) (Text (c.texts.at i)) T
+    to_node : {n i : ℕ} {T : P} {c : CellRecord} → S.cell n ≡ some c → i < c.nodes.count → StepLeads (Cell n) T (node_at i) (Node (c.nodes.at i)) T
+    to_reference : {n i : ℕ} {T : P} {c : CellRecord} → S.cell n ≡ some c → i < c.references.count → StepLeads (Cell n) T (reference_at i) (Reference (c.references.at i)) T
+    through_member_lem : {n column row : ℕ} {T : P} {r : PreparedReference} → S.reference n ≡ some r → column < r.grid.columns → row < r.grid.rows
         → StepLeads (Reference n) T (member column row) r.source (member_at T r column row)
 
   -- a path from a source at a placement to an item
   pub data Leads : PreparedSource → P → Path → Item P → Type 0 where
-    at-batch : {n : ℕ} {T : P} {g : PreparedGeometry} → S.geometry n ≡ some g → Leads (Geometry n) T [] (a_batch n g T)
-    at-text : {n : ℕ} {T : P} {x : PreparedText} → S.text n ≡ some x → Leads (Text n) T [] (a_text n x T)
-    at-point : {n j : ℕ} {T : P} {x : NodeRecord} → S.node n ≡ some x → j < x.count → Leads (Node n) T (point_at j ∷ []) (a_point n x j T)
+    at_batch : {n : ℕ} {T : P} {g : PreparedGeometry} → S.geometry n ≡ some g → Leads (Geometry n) T [] (a_batch n g T)
+    at_text : {n : ℕ} {T : P} {x : PreparedText} → S.text n ≡ some x → Leads (Text n) T [] (a_text n x T)
+    at_point : {n j : ℕ} {T : P} {x : NodeRecord} → S.node n ≡ some x → j < x.count → Leads (Node n) T (point_at j ∷ []) (a_point n x j T)
     step : {s u : PreparedSource} {T U : P} {k : Step} {p : Path} {h : Item P} → StepLeads s T k u U → Leads u U p h → Leads s T (k ∷ p) h
 
   module _ (origin : P) (root : ℕ) where
@@ -63,7 +63,7 @@ module _ {P : Type 0} (member_at : P → PreparedReference → ℕ → ℕ → P
 
     -- the beginning of a path: from the root to a source at its placement
     pub data Reaches : Path → PreparedSource → P → Type 0 where
-      at-root : Reaches [] (Cell root) origin
+      at_root : Reaches [] (Cell root) origin
       further : {p : Path} {s u : PreparedSource} {T U : P} {k : Step} → Reaches p s T → StepLeads s T k u U → Reaches (p ++ k ∷ []) u U
 
 -- a path's references are the members that it passes: where a placement is their number, the path leads to its item at that

@@ -31,34 +31,34 @@ module _ (s : List ℕ) (q : QueryRecord) (f h o k m : List ℕ) (a : Answer) {f
   the_told = told (drop q.sheet s) (query_of q.options (take q.hidden h) max_scene_objects) o k m
 
   module _ {n : ℕ} (is : a ≡ Planned n) where
-    planned-call : outcome (Planned n) o' k' m' ≡ outcome_of (drop q.sheet s) (query_of q.options (take q.hidden h) max_scene_objects) o k m
-    planned-call = rw is at call
+    planned_call : outcome (Planned n) o' k' m' ≡ outcome_of (drop q.sheet s) (query_of q.options (take q.hidden h) max_scene_objects) o k m
+    planned_call = rw is at call
 
-    pub tape-reply : reply (printed.Tape n) f' h o' k' m' ≡ reply_of_query s q f h o k m
+    pub tape_reply : reply (printed.Tape n) f' h o' k' m' ≡ reply_of_query s q f h o k m
     unfolding reply_of_query outcome_text outcome_end
-    tape-reply = λ i. reply_of_outcome (planned-call i) (opened i) h
+    tape_reply = λ i. reply_of_outcome (planned_call i) (opened i) h
 
-    pub tape-within : n ≤ length o'
-    tape-within =
+    pub tape_within : n ≤ length o'
+    tape_within =
         omega (
           arith,
-          ap (λ (c : Outcome). c.tape_length) planned-call,
-          ap (λ (c : Outcome). length c.out) planned-call,
-          the_told.within (sym (ap (λ (c : Outcome). c.number) planned-call)),
+          ap (λ (c : Outcome). c.tape_length) planned_call,
+          ap (λ (c : Outcome). length c.out) planned_call,
+          the_told.within (sym (ap (λ (c : Outcome). c.number) planned_call)),
         )
 
   module _ {n at : ℕ} (is : a ≡ Refused n at) where
-    refused-call : outcome (Refused n at) o' k' m' ≡ outcome_of (drop q.sheet s) (query_of q.options (take q.hidden h) max_scene_objects) o k m
-    refused-call = rw is at call
+    refused_call : outcome (Refused n at) o' k' m' ≡ outcome_of (drop q.sheet s) (query_of q.options (take q.hidden h) max_scene_objects) o k m
+    refused_call = rw is at call
 
     -- a call that answers 0 has a tape
     numbered : n ≡ 0 → ⊥
-    numbered none = omega (arith, ap (λ (c : Outcome). c.tape_length) refused-call, the_told.planned (sym (ap (λ (c : Outcome). c.number) refused-call) ∙ none))
+    numbered none = omega (arith, ap (λ (c : Outcome). c.tape_length) refused_call, the_told.planned (sym (ap (λ (c : Outcome). c.number) refused_call) ∙ none))
 
-    pub refusal-reply : reply (printed.Refused n at) f' h o' k' m' ≡ reply_of_query s q f h o k m
+    pub refusal_reply : reply (printed.Refused n at) f' h o' k' m' ≡ reply_of_query s q f h o k m
     unfolding reply_of_query outcome_text outcome_end line_from
-    refusal-reply =
-        let e : reply_of_outcome (outcome (Refused n at) o' k' m') f' h ≡ reply_of_query s q f h o k m = λ i. reply_of_outcome (refused-call i) (opened i) h in
+    refusal_reply =
+        let e : reply_of_outcome (outcome (Refused n at) o' k' m') f' h ≡ reply_of_query s q f h o k m = λ i. reply_of_outcome (refused_call i) (opened i) h in
         rw (ne_eqb n 0 numbered) at e
 
   pub no_room_reply : {n : ℕ} → a ≡ NoRoom n → reply (printed.Refused 12 0) f' h o' k' m' ≡ reply_of_query s q f h o k m

@@ -67,9 +67,9 @@ module _ (s h : List ℕ) {b : Bool} (whole : b ≡ whole_query s) where
   no_query t = rw (← whole, not-true b t)
 
   module _ (t : not b ≡ false) {n : ℕ} (read : n ≡ length_at s 0) where
-    pub has-length : query_length ≤ n
+    pub has_length : query_length ≤ n
     unfolding whole_query
-    has-length =
+    has_length =
         rw read
         (leb-true _ _
         (second_true (leb query_length (length s)) (leb query_length (length_at s 0)) (leb (length_at s 0) (length s)) (eqb ((length_at s 0 - query_length) % 4) 0) (eqb (kind_at s 0) query_kind)
@@ -79,10 +79,10 @@ module _ (s h : List ℕ) {b : Bool} (whole : b ≡ whole_query s) where
     unfolding read_query hidden_count
     too_long k = rw (← whole, not-false b t, ← read, lt-leb _ _ k)
 
-    pub query-read : {o : SceneOptions} {e : List ℕ} → (n - query_length) / 4 ≤ length h → e ≡ sets h 0 (layers_from ((n - query_length) / 4) s query_length) → o ≡ options_at s
+    pub query_read : {o : SceneOptions} {e : List ℕ} → (n - query_length) / 4 ≤ length h → e ≡ sets h 0 (layers_from ((n - query_length) / 4) s query_length) → o ≡ options_at s
         → ◌≡◌ {A = FirstRecord × List ℕ} (Query (record { options = o; hidden = (n - query_length) / 4; sheet = n }), e) (read_query s h)
     unfolding read_query query_record hidden_layers hidden_count
-    query-read k copied options = rw (← whole, not-false b t, ← read, le-leb _ _ k, copied, options)
+    query_read k copied options = rw (← whole, not-false b t, ← read, le-leb _ _ k, copied, options)
 
 -- ---- for those who go on with the query
 

@@ -17,7 +17,7 @@ use Rattle.plan_rules.specs.declared.ScenePlan.{ScenePlan}
 use Rattle.plan_rules.specs.Event.{Event, Step, member, after}
 use Rattle.plan_rules.specs.World.{Query, World, Flow, ending}
 use Rattle.plan_rules.specs.Push.{push_point}
-use Rattle.plan_rules.specs.Visit.{VisitReference, VisitSource, geometryStep, textStep, nodeStep, referenceStep, visitSourceWith, memberStep, columnStep, visit_reference}
+use Rattle.plan_rules.specs.Visit.{VisitReference, VisitSource, geometry_step, text_step, node_step, reference_step, visit_source_with, member_step, column_step, visit_reference}
 use Rattle.plan_rules.specs.Plan.{visit_root, plan}
 use Rattle.plan_rules.proofs.Simulation.{Keeps, KeepsFlow, the_relation, ending_sim}
 use Rattle.plan_rules.proofs.Simulation.Premises.{Room, is_totals, visit_premises, no_premises}
@@ -71,48 +71,48 @@ module _ {P A : Type 0} (enter : Step → P → P) (emit : P → Event → ℕ �
     references : Visits.KeepsReferences enter nowhere emit silent S cells q R Anywhere Anything (no_premises enter S q) both d (visits d) (blind d)
     references = Visits.reference_sim enter nowhere emit silent S cells q R Anywhere Anything (no_premises enter S q) both d
 
-    pub geometry-step-kept : (i : ℕ) → i < c.geometries.count → (w : World A) → Holds w → Holds (ending (geometryStep enter emit S cells q t n c p box i w))
-    geometry-step-kept i i< =
-        one_flow (geometryStep enter emit S cells q t n c p box i) (geometryStep nowhere silent S cells q tt n c p box i)
-        (Visits.geometry-step-sim enter nowhere emit silent S cells q R Anywhere Anything (no_premises enter S q) both d (visits d) (blind d) references t tt n c p box tt e i i<)
+    pub geometry_step_kept : (i : ℕ) → i < c.geometries.count → (w : World A) → Holds w → Holds (ending (geometry_step enter emit S cells q t n c p box i w))
+    geometry_step_kept i i< =
+        one_flow (geometry_step enter emit S cells q t n c p box i) (geometry_step nowhere silent S cells q tt n c p box i)
+        (Visits.geometry_step_sim enter nowhere emit silent S cells q R Anywhere Anything (no_premises enter S q) both d (visits d) (blind d) references t tt n c p box tt e i i<)
 
-    pub text-step-kept : (i : ℕ) → i < c.texts.count → (w : World A) → Holds w → Holds (ending (textStep enter emit S cells q t n c p box i w))
-    text-step-kept i i< =
-        one_flow (textStep enter emit S cells q t n c p box i) (textStep nowhere silent S cells q tt n c p box i)
-        (Visits.text-step-sim enter nowhere emit silent S cells q R Anywhere Anything (no_premises enter S q) both d (visits d) (blind d) references t tt n c p box tt e i i<)
+    pub text_step_kept : (i : ℕ) → i < c.texts.count → (w : World A) → Holds w → Holds (ending (text_step enter emit S cells q t n c p box i w))
+    text_step_kept i i< =
+        one_flow (text_step enter emit S cells q t n c p box i) (text_step nowhere silent S cells q tt n c p box i)
+        (Visits.text_step_sim enter nowhere emit silent S cells q R Anywhere Anything (no_premises enter S q) both d (visits d) (blind d) references t tt n c p box tt e i i<)
 
-    pub node-step-kept : (i : ℕ) → i < c.nodes.count → (w : World A) → Holds w → Holds (ending (nodeStep enter emit S cells q t n c p box i w))
-    node-step-kept i i< =
-        one_flow (nodeStep enter emit S cells q t n c p box i) (nodeStep nowhere silent S cells q tt n c p box i)
-        (Visits.node-step-sim enter nowhere emit silent S cells q R Anywhere Anything (no_premises enter S q) both d (visits d) (blind d) references t tt n c p box tt e i i<)
+    pub node_step_kept : (i : ℕ) → i < c.nodes.count → (w : World A) → Holds w → Holds (ending (node_step enter emit S cells q t n c p box i w))
+    node_step_kept i i< =
+        one_flow (node_step enter emit S cells q t n c p box i) (node_step nowhere silent S cells q tt n c p box i)
+        (Visits.node_step_sim enter nowhere emit silent S cells q R Anywhere Anything (no_premises enter S q) both d (visits d) (blind d) references t tt n c p box tt e i i<)
 
-    pub reference-step-kept : (i : ℕ) → i < c.references.count → (w : World A) → Holds w → Holds (ending (referenceStep enter emit S cells q t n c p box (visits d) i w))
-    reference-step-kept i i< =
-        one_flow (referenceStep enter emit S cells q t n c p box (visits d) i) (referenceStep nowhere silent S cells q tt n c p box (blind d) i)
-        (Visits.reference-step-sim enter nowhere emit silent S cells q R Anywhere Anything (no_premises enter S q) both d (visits d) (blind d) references t tt n c p box tt e i i<)
+    pub reference_step_kept : (i : ℕ) → i < c.references.count → (w : World A) → Holds w → Holds (ending (reference_step enter emit S cells q t n c p box (visits d) i w))
+    reference_step_kept i i< =
+        one_flow (reference_step enter emit S cells q t n c p box (visits d) i) (reference_step nowhere silent S cells q tt n c p box (blind d) i)
+        (Visits.reference_step_sim enter nowhere emit silent S cells q R Anywhere Anything (no_premises enter S q) both d (visits d) (blind d) references t tt n c p box tt e i i<)
 
   module _ (d : ℕ) (t : P) (n : ℕ) (r : PreparedReference) (p : Placement) (sb wb : WorldBBox) (e : S.reference n ≡ some r) (eb : r.source_bbox ≡ boxed sb) where
     abbrev sources : VisitSource enter emit S cells q
-    sources = visitSourceWith enter emit S cells q (visits d)
+    sources = visit_source_with enter emit S cells q (visits d)
 
     abbrev blinds : VisitSource nowhere silent S cells q
-    blinds = visitSourceWith nowhere silent S cells q (blind d)
+    blinds = visit_source_with nowhere silent S cells q (blind d)
 
     members : Visits.KeepsMembers enter nowhere emit silent S cells q R Anywhere Anything (no_premises enter S q) both sources blinds t tt r p
     members x y x< y< =
-        Visits.source-sim enter nowhere emit silent S cells q R Anywhere Anything (no_premises enter S q) both d (visits d) (blind d)
+        Visits.source_sim enter nowhere emit silent S cells q R Anywhere Anything (no_premises enter S q) both d (visits d) (blind d)
         (Visits.reference_sim enter nowhere emit silent S cells q R Anywhere Anything (no_premises enter S q) both d)
         (enter (member x y) t) tt r.source (p · grid_member_transform r.grid x y) tt
 
-    pub member-kept : (u x : ℕ) → x < r.grid.columns → (y : ℕ) → y < r.grid.rows → (w : World A) → Holds w → Holds (ending (memberStep enter emit S cells q sources (suc d) t r p sb wb u x y w))
-    member-kept u x x< y y< =
-        one_flow (memberStep enter emit S cells q sources (suc d) t r p sb wb u x y) (memberStep nowhere silent S cells q blinds (suc d) tt r p sb wb u x y)
-        (Visits.member-sim enter nowhere emit silent S cells q R Anywhere Anything (no_premises enter S q) both (suc d) sources blinds t tt n r p sb wb tt e eb members u x x< y y<)
+    pub member_kept : (u x : ℕ) → x < r.grid.columns → (y : ℕ) → y < r.grid.rows → (w : World A) → Holds w → Holds (ending (member_step enter emit S cells q sources (suc d) t r p sb wb u x y w))
+    member_kept u x x< y y< =
+        one_flow (member_step enter emit S cells q sources (suc d) t r p sb wb u x y) (member_step nowhere silent S cells q blinds (suc d) tt r p sb wb u x y)
+        (Visits.member_sim enter nowhere emit silent S cells q R Anywhere Anything (no_premises enter S q) both (suc d) sources blinds t tt n r p sb wb tt e eb members u x x< y y<)
 
-    pub column-kept : (u x : ℕ) → x < r.grid.columns → (w : World A) → Holds w → Holds (ending (columnStep enter emit S cells q sources (suc d) t r p sb wb u x w))
-    column-kept u x x< =
-        one_flow (columnStep enter emit S cells q sources (suc d) t r p sb wb u x) (columnStep nowhere silent S cells q blinds (suc d) tt r p sb wb u x)
-        (Visits.column-sim enter nowhere emit silent S cells q R Anywhere Anything (no_premises enter S q) both (suc d) sources blinds t tt n r p sb wb tt e eb members u x x<)
+    pub column_kept : (u x : ℕ) → x < r.grid.columns → (w : World A) → Holds w → Holds (ending (column_step enter emit S cells q sources (suc d) t r p sb wb u x w))
+    column_kept u x x< =
+        one_flow (column_step enter emit S cells q sources (suc d) t r p sb wb u x) (column_step nowhere silent S cells q blinds (suc d) tt r p sb wb u x)
+        (Visits.column_sim enter nowhere emit silent S cells q R Anywhere Anything (no_premises enter S q) both (suc d) sources blinds t tt n r p sb wb tt e eb members u x x<)
 
   -- ---- a plan
 

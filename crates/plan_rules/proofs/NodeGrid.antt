@@ -19,9 +19,9 @@ use Rattle.plan_rules.specs.declared.Reason.TheVariants as reason
 use Rattle.plan_rules.specs.Limits.{max_text_instances, max_load_proxies}
 use Rattle.plan_rules.specs.Event.{Event, Step, member, after, ◌⊞◌}
 use Rattle.plan_rules.specs.World.{Query, hides, detail_budget_exhausted, World, Flow, go, halt, bind, each}
-use Rattle.plan_rules.specs.Push.{say, add_load, push_point, pushFoundNode, push_node}
-use Rattle.plan_rules.specs.Visit.{VisitReference, visitSourceWith, memberStep, columnStep}
-use Rattle.plan_rules.specs.NodeGrid.{NodeStopsAtObjects, RunsOut, NodeGridRunsOut, MemberBoxIsListed, visitMember, visitColumn, member_box}
+use Rattle.plan_rules.specs.Push.{say, add_load, push_point, push_found_node, push_node}
+use Rattle.plan_rules.specs.Visit.{VisitReference, visit_source_with, member_step, column_step}
+use Rattle.plan_rules.specs.NodeGrid.{NodeStopsAtObjects, RunsOut, NodeGridRunsOut, MemberBoxIsListed, visit_member, visit_column, member_box}
 use Rattle.plan_rules.proofs.Paths.Loops.{each_halts_at}
 
 module _ {P A : Type 0} (enter : Step → P → P) (emit : P → Event → ℕ → A → A) (S : Sheet) (q : Query) where
@@ -58,8 +58,8 @@ module _ {P A : Type 0} (enter : Step → P → P) (emit : P → Event → ℕ �
       cond_stops w.state (not (point_in_bbox (transform_point2 p (x.point j)) q.view)) _ _ (λ _. (refl, refl))
       (λ _. cond_stops w.state (detail_budget_exhausted q w.state) _ _ (λ e. ((refl, refl), e)) (λ _. (refl, refl)))
 
-  found_stops : (t : P) (p : Placement) (o : Option NodeRecord) (w : World A) → Stops w.state (pushFoundNode enter emit S q t p o w)
-  unfolding pushFoundNode
+  found_stops : (t : P) (p : Placement) (o : Option NodeRecord) (w : World A) → Stops w.state (push_found_node enter emit S q t p o w)
+  unfolding push_found_node
   found_stops t p none w = (refl, refl)
   found_stops t p (some x) w = cond_stops w.state (hides q x.layer x.node_type) _ _ (λ _. (refl, refl)) (λ _. each_stops (push_point enter emit S q t p x) (point_stops t p x) x.count 0 w)
 
@@ -93,8 +93,8 @@ module _ {P A : Type 0} (enter : Step → P → P) (emit : P → Event → ℕ �
   -- ---- a grid of bare node points
 
   module _ (cells : ℕ) (visit : VisitReference enter emit S cells q) (depth : ℕ) (t : P) (r : PreparedReference) (n : ℕ) (p : Placement) (sourceBox world_box : WorldBBox) (units : ℕ) where
-    abbrev bothBoxes : ℕ → ℕ → World A → World A
-    bothBoxes column row v =
+    abbrev both_boxes : ℕ → ℕ → World A → World A
+    both_boxes column row v =
         add_load enter emit t reason.OtherLimit no_label world_box
         (add_load enter emit (enter (member column row) t) reason.OtherLimit no_label (member_box enter emit S q cells visit depth t r n p sourceBox world_box units column row) v)
 
@@ -102,21 +102,21 @@ module _ {P A : Type 0} (enter : Step → P → P) (emit : P → Event → ℕ �
     Out = RunsOut enter emit S q cells visit depth t r n p sourceBox world_box units
 
     abbrev turn : ℕ → ℕ → World A → Flow A
-    turn = visitMember enter emit S q cells visit depth t r n p sourceBox world_box units
+    turn = visit_member enter emit S q cells visit depth t r n p sourceBox world_box units
 
-    member-halts : (column row : ℕ) (w v : World A) → r.source ≡ Node n → (o : Out column row w v) → turn column row o.w₂ ≡ halt (bothBoxes column row v)
-    unfolding memberStep visitSourceWith label
-    member-halts column row w v source o = rw (o.room, o.in-view, o.large, o.visited, source, o.stopped)
+    member_halts : (column row : ℕ) (w v : World A) → r.source ≡ Node n → (o : Out column row w v) → turn column row o.w₂ ≡ halt (both_boxes column row v)
+    unfolding member_step visit_source_with label
+    member_halts column row w v source o = rw (o.room, o.in-view, o.large, o.visited, source, o.stopped)
 
-    pub node-grid-runs-out : NodeGridRunsOut enter emit S q cells visit depth t r n p sourceBox world_box units
-    unfolding columnStep
-    node-grid-runs-out column row w v source column< row< o =
-        each_halts_at (visitColumn enter emit S q cells visit depth t r n p sourceBox world_box units) r.grid.columns column w o.w₁ _ column< o.columns-before
-        (each_halts_at (turn column) r.grid.rows row o.w₁ o.w₂ _ row< o.rows_before (member-halts column row w v source o))
+    pub node_grid_runs_out : NodeGridRunsOut enter emit S q cells visit depth t r n p sourceBox world_box units
+    unfolding column_step
+    node_grid_runs_out column row w v source column< row< o =
+        each_halts_at (visit_column enter emit S q cells visit depth t r n p sourceBox world_box units) r.grid.columns column w o.w₁ _ column< o.columns-before
+        (each_halts_at (turn column) r.grid.rows row o.w₁ o.w₂ _ row< o.rows_before (member_halts column row w v source o))
 
-    pub member-box-is-listed : MemberBoxIsListed enter emit S q cells visit depth t r n p sourceBox world_box units
+    pub member_box_is_listed : MemberBoxIsListed enter emit S q cells visit depth t r n p sourceBox world_box units
     unfolding add_load detail_budget_exhausted
-    member-box-is-listed column row w v o =
+    member_box_is_listed column row w v o =
         let same = (node_stops_at_objects (enter (member column row) t) n _ o.w₂ v o.room o.stopped).1 in
         let s : ScenePlan = o.w₂.state in
         let below : s.load_proxies < max_load_proxies = leb-false max_load_proxies s.load_proxies (the_last (leb q.object_limit s.detail_objects) (texts_full o.w₂) (proxies_full o.w₂) o.room) in

@@ -65,8 +65,8 @@ open_circle_counts_one S cells depth n k m fresh counting = by (S.cell n) refl (
   where
     by : (o : Option CellRecord) → S.cell n ≡ o → (b : Bool) → eqb depth 0 ≡ b → units_of (cell_draw_units S cells depth n k m) ≡ 1
     by none e b a = missing_cell_counts_one S cells depth n k m e
-    by (some c) e true a = ap units_of (Counts.units-depth-zero S cells depth n k m c e a)
-    by (some c) e false a = ap units_of (Counts.units-circle S cells depth n k m c e a fresh counting)
+    by (some c) e true a = ap units_of (Counts.units_depth_zero S cells depth n k m c e a)
+    by (some c) e false a = ap units_of (Counts.units_circle S cells depth n k m c e a fresh counting)
 
 pub item_counts_one : ItemCountsOne
 item_counts_one S cells depth n k m = (ap units_of (Counts.units_geometry S cells depth n k m), ap units_of (Counts.units_text S cells depth n k m), ap units_of (Counts.units_node S cells depth n k m))

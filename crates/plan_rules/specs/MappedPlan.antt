@@ -19,7 +19,7 @@ use Rattle.plan_rules.specs.Event.{Event, culled_reference, detail_cell, totals,
 use Rattle.plan_rules.specs.World.{Query, detail_cells_full, detail_budget_exhausted, World, world, go, ending}
 use Rattle.plan_rules.specs.DrawUnits.{counted}
 use Rattle.plan_rules.specs.Push.{say, add_load, add_load_if_boxed, push_geometry, push_text, push_node}
-use Rattle.plan_rules.specs.Visit.{VisitReference, VisitSource, cellBody, visitCountedReference}
+use Rattle.plan_rules.specs.Visit.{VisitReference, VisitSource, cell_body, visit_counted_reference}
 use Rattle.plan_rules.specs.Plan.{load_root}
 use Rattle.plan_rules.specs.Maps.{Maps, empty_maps, opened, mapped_reference}
 
@@ -34,58 +34,58 @@ module _ {P A : Type 0} (enter : Step → P → P) (emit : P → Event → ℕ �
 
   module _ (S : Sheet) (q : Query) where
     -- `visit_cell`, with `self.cell_stack.insert(..)` and `self.cell_stack.remove(..)`
-    unfoldable pub visitMappedCell : VisitReference enter emit_beside S 0 q → P → ℕ → Placement → Option CellRecord → World (A × Maps) → World (A × Maps)
-    visitMappedCell visit t n p none w = w
-    visitMappedCell visit t n p (some c) w =
+    unfoldable pub visit_mapped_cell : VisitReference enter emit_beside S 0 q → P → ℕ → Placement → Option CellRecord → World (A × Maps) → World (A × Maps)
+    visit_mapped_cell visit t n p none w = w
+    visit_mapped_cell visit t n p (some c) w =
         let box = transform_bounds p c.bbox in
         cond (is_outside box q.view) w
         (cond (detail_cells_full w.state) (add_load_if_boxed enter emit_beside t reason.CellLimit n box w)
         (cond (detail_budget_exhausted q w.state) (add_load_if_boxed enter emit_beside t reason.OtherLimit n box w)
         (cond (w.out.1.cell_stack n) (add_load_if_boxed enter emit_beside t reason.Circle n box w)
-        (let v = ending (cellBody enter emit_beside S 0 q t n c p box visit (say enter emit_beside t detail_cell (with_maps (opened n true w.out.1) w))) in
+        (let v = ending (cell_body enter emit_beside S 0 q t n c p box visit (say enter emit_beside t detail_cell (with_maps (opened n true w.out.1) w))) in
         with_maps (opened n false v.out.1) v))))
 
     -- `visit_source`
-    unfoldable pub visitMappedSource : VisitReference enter emit_beside S 0 q → VisitSource enter emit_beside S 0 q
-    visitMappedSource visit t (Geometry n) p w = go (push_geometry enter emit_beside S q t n p w)
-    visitMappedSource visit t (Text n) p w = go (push_text enter emit_beside S q t n p w)
-    visitMappedSource visit t (Node n) p w = push_node enter emit_beside S q t n p w
-    visitMappedSource visit t (Reference n) p w = go (visit t n p w)
-    visitMappedSource visit t (Cell n) p w = go (visitMappedCell visit t n p (S.cell n) w)
+    unfoldable pub visit_mapped_source : VisitReference enter emit_beside S 0 q → VisitSource enter emit_beside S 0 q
+    visit_mapped_source visit t (Geometry n) p w = go (push_geometry enter emit_beside S q t n p w)
+    visit_mapped_source visit t (Text n) p w = go (push_text enter emit_beside S q t n p w)
+    visit_mapped_source visit t (Node n) p w = push_node enter emit_beside S q t n p w
+    visit_mapped_source visit t (Reference n) p w = go (visit t n p w)
+    visit_mapped_source visit t (Cell n) p w = go (visit_mapped_cell visit t n p (S.cell n) w)
 
     -- `visit_reference` from its box on, with `self.reference_draw_units(..)`
-    unfoldable pub visitMappedBoxed : VisitSource enter emit_beside S 0 q → ℕ → P → PreparedReference → Placement → WorldBBox → Bounds → World (A × Maps) → World (A × Maps)
-    visitMappedBoxed visit depth t r p sourceBox Absent w = w
-    visitMappedBoxed visit depth t r p sourceBox (Box a b c d) w =
+    unfoldable pub visit_mapped_boxed : VisitSource enter emit_beside S 0 q → ℕ → P → PreparedReference → Placement → WorldBBox → Bounds → World (A × Maps) → World (A × Maps)
+    visit_mapped_boxed visit depth t r p sourceBox Absent w = w
+    visit_mapped_boxed visit depth t r p sourceBox (Box a b c d) w =
         let world_box = transform_bbox p (bbox a b c d) in
         let u = mapped_reference S depth r w.out.1 in
         cond (not (overlaps world_box q.view)) (say enter emit_beside t culled_reference w)
         (cond (detail_cells_full w.state) (add_load enter emit_beside t reason.CellLimit (label r.source) world_box w)
         (cond (detail_budget_exhausted q w.state) (add_load enter emit_beside t reason.OtherLimit (label r.source) world_box w)
-        (visitCountedReference enter emit_beside S 0 q visit depth t r p sourceBox world_box (counted u.units [] []) (with_maps u.maps w))))
+        (visit_counted_reference enter emit_beside S 0 q visit depth t r p sourceBox world_box (counted u.units [] []) (with_maps u.maps w))))
 
     -- `let Some(source_bbox) = reference.source_bbox else { return; }`
-    unfoldable pub visitMappedSourced : VisitSource enter emit_beside S 0 q → ℕ → P → PreparedReference → Placement → Bounds → World (A × Maps) → World (A × Maps)
-    visitMappedSourced visit depth t r p Absent w = w
-    visitMappedSourced visit depth t r p (Box a b c d) w = visitMappedBoxed visit depth t r p (bbox a b c d) (reference_bbox r.grid (bbox a b c d)) w
+    unfoldable pub visit_mapped_sourced : VisitSource enter emit_beside S 0 q → ℕ → P → PreparedReference → Placement → Bounds → World (A × Maps) → World (A × Maps)
+    visit_mapped_sourced visit depth t r p Absent w = w
+    visit_mapped_sourced visit depth t r p (Box a b c d) w = visit_mapped_boxed visit depth t r p (bbox a b c d) (reference_bbox r.grid (bbox a b c d)) w
 
     -- a reference by number
-    unfoldable pub visitMappedFound : VisitSource enter emit_beside S 0 q → ℕ → P → Placement → Option PreparedReference → World (A × Maps) → World (A × Maps)
-    visitMappedFound visit depth t p none w = w
-    visitMappedFound visit depth t p (some r) w = visitMappedSourced visit depth t r p r.source_bbox w
+    unfoldable pub visit_mapped_found : VisitSource enter emit_beside S 0 q → ℕ → P → Placement → Option PreparedReference → World (A × Maps) → World (A × Maps)
+    visit_mapped_found visit depth t p none w = w
+    visit_mapped_found visit depth t p (some r) w = visit_mapped_sourced visit depth t r p r.source_bbox w
 
     -- `visit_reference` at a depth
-    unfoldable pub visitMappedReference : ℕ → VisitReference enter emit_beside S 0 q
-    visitMappedReference zero t n p w = visitMappedFound (λ t s p w. go w) 0 t p (S.reference n) w
-    visitMappedReference (suc depth) t n p w = visitMappedFound (visitMappedSource (visitMappedReference depth)) (suc depth) t p (S.reference n) w
+    unfoldable pub visit_mapped_reference : ℕ → VisitReference enter emit_beside S 0 q
+    visit_mapped_reference zero t n p w = visit_mapped_found (λ t s p w. go w) 0 t p (S.reference n) w
+    visit_mapped_reference (suc depth) t n p w = visit_mapped_found (visit_mapped_source (visit_mapped_reference depth)) (suc depth) t p (S.reference n) w
 
     -- the root, as `visit_root` of `Plan`
-    unfoldable pub visitMappedRoot : ℕ → P → World (A × Maps) → World (A × Maps)
-    visitMappedRoot zero t w = load_root enter emit_beside S 0 q t (S.cell q.root) w
-    visitMappedRoot (suc depth) t w = visitMappedCell (visitMappedReference (suc depth)) t q.root IDENTITY (S.cell q.root) w
+    unfoldable pub visit_mapped_root : ℕ → P → World (A × Maps) → World (A × Maps)
+    visit_mapped_root zero t w = load_root enter emit_beside S 0 q t (S.cell q.root) w
+    visit_mapped_root (suc depth) t w = visit_mapped_cell (visit_mapped_reference (suc depth)) t q.root IDENTITY (S.cell q.root) w
 
     -- `plan`, from empty maps
-    unfoldable pub mappedPlan : P → A → World (A × Maps)
-    mappedPlan t o =
-        let v = visitMappedRoot q.depth t (world empty_plan (o, empty_maps) [] []) in
+    unfoldable pub mapped_plan : P → A → World (A × Maps)
+    mapped_plan t o =
+        let v = visit_mapped_root q.depth t (world empty_plan (o, empty_maps) [] []) in
         say enter emit_beside t (totals v.state) v

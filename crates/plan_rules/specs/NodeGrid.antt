@@ -17,7 +17,7 @@ use Rattle.plan_rules.specs.declared.Reason.TheVariants as reason
 use Rattle.plan_rules.specs.Event.{Event, proxy, Step, member}
 use Rattle.plan_rules.specs.World.{Query, detail_budget_exhausted, World, Flow, go, halt, each}
 use Rattle.plan_rules.specs.Push.{say, add_load, push_node}
-use Rattle.plan_rules.specs.Visit.{VisitReference, visitSourceWith, memberStep, columnStep}
+use Rattle.plan_rules.specs.Visit.{VisitReference, visit_source_with, member_step, column_step}
 
 module _ {P A : Type 0} (enter : Step → P → P) (emit : P → Event → ℕ → A → A) (S : Sheet) (q : Query) where
   -- Which limit a node's points can meet: they add objects alone, so it is the object limit if none was met before.
@@ -27,11 +27,11 @@ module _ {P A : Type 0} (enter : Step → P → P) (emit : P → Event → ℕ �
 
   -- A reference at the tag t to node n, "a grid of bare node points", at its members. How references are visited does not matter: no member is one.
   module _ (cells : ℕ) (visit : VisitReference enter emit S cells q) (depth : ℕ) (t : P) (r : PreparedReference) (n : ℕ) (p : Placement) (sourceBox world_box : WorldBBox) (units : ℕ) where
-    abbrev pub visitMember : ℕ → ℕ → World A → Flow A
-    visitMember = memberStep enter emit S cells q (visitSourceWith enter emit S cells q visit) depth t r p sourceBox world_box units
+    abbrev pub visit_member : ℕ → ℕ → World A → Flow A
+    visit_member = member_step enter emit S cells q (visit_source_with enter emit S cells q visit) depth t r p sourceBox world_box units
 
-    abbrev pub visitColumn : ℕ → World A → Flow A
-    visitColumn = columnStep enter emit S cells q (visitSourceWith enter emit S cells q visit) depth t r p sourceBox world_box units
+    abbrev pub visit_column : ℕ → World A → Flow A
+    visit_column = column_step enter emit S cells q (visit_source_with enter emit S cells q visit) depth t r p sourceBox world_box units
 
     abbrev pub member_placement : ℕ → ℕ → Placement
     member_placement column row = p · grid_member_transform r.grid column row
@@ -39,26 +39,26 @@ module _ {P A : Type 0} (enter : Step → P → P) (emit : P → Event → ℕ �
     abbrev pub member_box : ℕ → ℕ → WorldBBox
     member_box column row = transform_bbox (member_placement column row) sourceBox
 
-    abbrev pub memberSize : ℕ → ℕ → ScreenSize
-    memberSize column row = reference_screen_size (member_box column row) q.zoom (source_is_degenerate sourceBox)
+    abbrev pub member_size : ℕ → ℕ → ScreenSize
+    member_size column row = reference_screen_size (member_box column row) q.zoom (source_is_degenerate sourceBox)
 
     -- It "meets a limit" at the member of a column and a row: the members before it went by, its node is visited, and one of the points finds a limit met, in the world v.
     pub record RunsOut (column row : ℕ) (w v : World A) : Type 0 where
       -- behind the columns before it, and right before it
       pub w₁ : World A
       pub w₂ : World A
-      pub columns-before : each visitColumn column 0 w ≡ go w₁
-      pub rows_before : each (visitMember column) row 0 w₁ ≡ go w₂
+      pub columns_before : each visit_column column 0 w ≡ go w₁
+      pub rows_before : each (visit_member column) row 0 w₁ ≡ go w₂
       pub room : detail_budget_exhausted q w₂.state ≡ false
-      pub in-view : overlaps (member_box column row) q.view ≡ true
-      pub large : is_subpixel (memberSize column row) ≡ false
-      pub visited : collapses (collapse_test (memberSize column row).width (memberSize column row).height 1 units depth false) ≡ false
+      pub in_view : overlaps (member_box column row) q.view ≡ true
+      pub large : is_subpixel (member_size column row) ≡ false
+      pub visited : collapses (collapse_test (member_size column row).width (member_size column row).height 1 units depth false) ≡ false
       pub stopped : push_node enter emit S q (enter (member column row) t) n (member_placement column row) w₂ ≡ halt v
 
     -- "Then the whole reference's box shall be added after the member's box, without a label, also if that member is the last": whichever of the members it is, the visit ends in these two.
     abbrev pub NodeGridRunsOut : Type 0
     NodeGridRunsOut = (column row : ℕ) (w v : World A) → r.source ≡ Node n → column < r.grid.columns → row < r.grid.rows → RunsOut column row w v
-        → each visitColumn r.grid.columns 0 w
+        → each visit_column r.grid.columns 0 w
         ≡ halt (add_load enter emit t reason.OtherLimit no_label world_box (add_load enter emit (enter (member column row) t) reason.OtherLimit no_label (member_box column row) v))
 
     -- "listed or dropped": the member's box is always listed, since no limit was met before the member. So the whole reference's is dropped just where the member's filled the list.

@@ -126,40 +126,40 @@ module _ {f : Fixed} (g : Given f) where
   VisitSource = visit.VisitSource no_tag on_tape g.sheet f.counts.cells query
 
   module _ (n : ℕ) (c : CellRecord) (p : Placement) (box : Bounds) where
-    abbrev pub geometryStep : ℕ → Output → Flow (List ℕ)
-    geometryStep = visit.geometryStep no_tag on_tape g.sheet f.counts.cells query tt n c p box
+    abbrev pub geometry_step : ℕ → Output → Flow (List ℕ)
+    geometry_step = visit.geometry_step no_tag on_tape g.sheet f.counts.cells query tt n c p box
 
-    abbrev pub textStep : ℕ → Output → Flow (List ℕ)
-    textStep = visit.textStep no_tag on_tape g.sheet f.counts.cells query tt n c p box
+    abbrev pub text_step : ℕ → Output → Flow (List ℕ)
+    text_step = visit.text_step no_tag on_tape g.sheet f.counts.cells query tt n c p box
 
-    abbrev pub nodeStep : ℕ → Output → Flow (List ℕ)
-    nodeStep = visit.nodeStep no_tag on_tape g.sheet f.counts.cells query tt n c p box
+    abbrev pub node_step : ℕ → Output → Flow (List ℕ)
+    node_step = visit.node_step no_tag on_tape g.sheet f.counts.cells query tt n c p box
 
-    abbrev pub referenceStep : VisitReference → ℕ → Output → Flow (List ℕ)
-    referenceStep = visit.referenceStep no_tag on_tape g.sheet f.counts.cells query tt n c p box
+    abbrev pub reference_step : VisitReference → ℕ → Output → Flow (List ℕ)
+    reference_step = visit.reference_step no_tag on_tape g.sheet f.counts.cells query tt n c p box
 
-    abbrev pub cellBody : VisitReference → Output → Flow (List ℕ)
-    cellBody = visit.cellBody no_tag on_tape g.sheet f.counts.cells query tt n c p box
+    abbrev pub cell_body : VisitReference → Output → Flow (List ℕ)
+    cell_body = visit.cell_body no_tag on_tape g.sheet f.counts.cells query tt n c p box
 
   abbrev pub visit_found_cell : VisitReference → ℕ → Placement → Option CellRecord → Output → Output
   visit_found_cell on n p c w = visit.visit_found_cell no_tag on_tape g.sheet f.counts.cells query on tt n p c w
 
   module _ (on : VisitSource) (depth : ℕ) (r : PreparedReference) (p : Placement) where
     module _ (sourceBox world_box : WorldBBox) where
-      abbrev pub memberStep : ℕ → ℕ → ℕ → Output → Flow (List ℕ)
-      memberStep = visit.memberStep no_tag on_tape g.sheet f.counts.cells query on depth tt r p sourceBox world_box
+      abbrev pub member_step : ℕ → ℕ → ℕ → Output → Flow (List ℕ)
+      member_step = visit.member_step no_tag on_tape g.sheet f.counts.cells query on depth tt r p sourceBox world_box
 
-      abbrev pub columnStep : ℕ → ℕ → Output → Flow (List ℕ)
-      columnStep = visit.columnStep no_tag on_tape g.sheet f.counts.cells query on depth tt r p sourceBox world_box
+      abbrev pub column_step : ℕ → ℕ → Output → Flow (List ℕ)
+      column_step = visit.column_step no_tag on_tape g.sheet f.counts.cells query on depth tt r p sourceBox world_box
 
-      abbrev pub visitCountedReference : Units → Output → Output
-      visitCountedReference = visit.visitCountedReference no_tag on_tape g.sheet f.counts.cells query on depth tt r p sourceBox world_box
+      abbrev pub visit_counted_reference : Units → Output → Output
+      visit_counted_reference = visit.visit_counted_reference no_tag on_tape g.sheet f.counts.cells query on depth tt r p sourceBox world_box
 
-    abbrev pub visitBoxedReference : WorldBBox → Bounds → Output → Output
-    visitBoxedReference = visit.visitBoxedReference no_tag on_tape g.sheet f.counts.cells query on depth tt r p
+    abbrev pub visit_boxed_reference : WorldBBox → Bounds → Output → Output
+    visit_boxed_reference = visit.visit_boxed_reference no_tag on_tape g.sheet f.counts.cells query on depth tt r p
 
-    abbrev pub visitSourcedReference : Bounds → Output → Output
-    visitSourcedReference = visit.visitSourcedReference no_tag on_tape g.sheet f.counts.cells query on depth tt r p
+    abbrev pub visit_sourced_reference : Bounds → Output → Output
+    visit_sourced_reference = visit.visit_sourced_reference no_tag on_tape g.sheet f.counts.cells query on depth tt r p
 
   abbrev pub visit_found_reference : VisitSource → ℕ → Placement → Option PreparedReference → Output → Output
   visit_found_reference on depth p r w = visit.visit_found_reference no_tag on_tape g.sheet f.counts.cells query on depth tt p r w

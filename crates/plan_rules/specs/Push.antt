@@ -38,9 +38,9 @@ module _ {P A : Type 0} (enter : Step → P → P) (emit : P → Event → ℕ �
 
   module _ (S : Sheet) (q : Query) where
     -- `push_geometry` of a batch that is there. (A number that names no batch lists nothing; no sheet that passes question 7 has one.)
-    unfoldable pub pushFoundGeometry : P → ℕ → Placement → Option PreparedGeometry → World A → World A
-    pushFoundGeometry t n p none w = w
-    pushFoundGeometry t n p (some g) w =
+    unfoldable pub push_found_geometry : P → ℕ → Placement → Option PreparedGeometry → World A → World A
+    push_found_geometry t n p none w = w
+    push_found_geometry t n p (some g) w =
         let box = transform_bbox p g.bbox in
         let size = screen_size box q.zoom in
         cond (hides q g.layer g.data_type) w
@@ -51,18 +51,18 @@ module _ {P A : Type 0} (enter : Step → P → P) (emit : P → Event → ℕ �
         (say t (batch n p) w)))))
 
     unfoldable pub push_geometry : P → ℕ → Placement → World A → World A
-    push_geometry t n p w = pushFoundGeometry t n p (S.geometry n) w
+    push_geometry t n p w = push_found_geometry t n p (S.geometry n) w
 
     -- `push_text`
-    unfoldable pub pushFoundText : P → ℕ → Placement → Option PreparedText → World A → World A
-    pushFoundText t n p none w = w
-    pushFoundText t n p (some x) w =
+    unfoldable pub push_found_text : P → ℕ → Placement → Option PreparedText → World A → World A
+    push_found_text t n p none w = w
+    push_found_text t n p (some x) w =
         let position = transform_point2 p x.origin in
         cond (hides q x.layer x.data_type) w
         (cond (point_in_bbox position q.view) (say t (text n position) w) w)
 
     unfoldable pub push_text : P → ℕ → Placement → World A → World A
-    push_text t n p w = pushFoundText t n p (S.text n) w
+    push_text t n p w = push_found_text t n p (S.text n) w
 
     -- one turn of the loop of `push_node`: a point outside the view is passed over, one inside meets the budget
     unfoldable pub push_point : P → Placement → NodeRecord → ℕ → World A → Flow A
@@ -73,9 +73,9 @@ module _ {P A : Type 0} (enter : Step → P → P) (emit : P → Event → ℕ �
         (go (say (enter (point_at j) t) (point x.layer x.node_type position) w)))
 
     -- `push_node`, whose `false` is a halt
-    unfoldable pub pushFoundNode : P → Placement → Option NodeRecord → World A → Flow A
-    pushFoundNode t p none w = go w
-    pushFoundNode t p (some x) w = cond (hides q x.layer x.node_type) (go w) (each (push_point t p x) x.count 0 w)
+    unfoldable pub push_found_node : P → Placement → Option NodeRecord → World A → Flow A
+    push_found_node t p none w = go w
+    push_found_node t p (some x) w = cond (hides q x.layer x.node_type) (go w) (each (push_point t p x) x.count 0 w)
 
     unfoldable pub push_node : P → ℕ → Placement → World A → Flow A
-    push_node t n p w = pushFoundNode t p (S.node n) w
+    push_node t n p w = push_found_node t p (S.node n) w

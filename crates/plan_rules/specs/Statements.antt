@@ -9,7 +9,7 @@ use Rattle.plan_rules.specs.World.{Query, world}
 use Rattle.plan_rules.specs.Plan.{plan}
 use Rattle.plan_rules.specs.Tape.{no_tag, on_tape, note, tape}
 use Rattle.plan_rules.specs.Outcome.{tape_of}
-use Rattle.plan_rules.specs.MappedPlan.{mappedPlan}
+use Rattle.plan_rules.specs.MappedPlan.{mapped_plan}
 
 -- A plan that writes leaves the records of the events that a plan notes, and behind them the output as lent, where the records fit.
 abbrev pub WritesItsTape : Type 0
@@ -20,4 +20,4 @@ WritesItsTape = (S : Sheet) (cells : ℕ) (q : Query) (o k m : List ℕ)
 
 -- The tape of a sheet's bytes, planned over the lent scratch, is that of a plan over the Rust's maps.
 abbrev pub TapeOverMaps : Type 0
-TapeOverMaps = (s : List ℕ) (q : Query) → tape_of (sheet_of s) (count_of s 5) q ≡ tape (mappedPlan no_tag note (sheet_of s) q tt []).out.0
+TapeOverMaps = (s : List ℕ) (q : Query) → tape_of (sheet_of s) (count_of s 5) q ≡ tape (mapped_plan no_tag note (sheet_of s) q tt []).out.0

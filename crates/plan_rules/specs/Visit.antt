@@ -71,32 +71,32 @@ module _ {P A : Type 0} (enter : Step → P → P) (emit : P → Event → ℕ �
 
     -- the four loops: at an exhausted budget the cell's box is added, and the visit is over
     module _ (t : P) (n : ℕ) (c : CellRecord) (p : Placement) (box : Bounds) where
-      unfoldable pub geometryStep : ℕ → World A → Flow A
-      geometryStep i w =
+      unfoldable pub geometry_step : ℕ → World A → Flow A
+      geometry_step i w =
           cond (detail_budget_exhausted q w.state) (halt (add_load_if_boxed enter emit t reason.OtherLimit n box w))
           (go (push_geometry enter emit S q (enter (batch_at i) t) (c.geometries.at i) p w))
 
-      unfoldable pub textStep : ℕ → World A → Flow A
-      textStep i w =
+      unfoldable pub text_step : ℕ → World A → Flow A
+      text_step i w =
           cond (detail_budget_exhausted q w.state) (halt (add_load_if_boxed enter emit t reason.OtherLimit n box w))
           (go (push_text enter emit S q (enter (text_at i) t) (c.texts.at i) p w))
 
-      unfoldable pub nodeStep : ℕ → World A → Flow A
-      nodeStep i w =
+      unfoldable pub node_step : ℕ → World A → Flow A
+      node_step i w =
           cond (detail_budget_exhausted q w.state) (halt (add_load_if_boxed enter emit t reason.OtherLimit n box w))
           (halt_with_cell t n box (push_node enter emit S q (enter (node_at i) t) (c.nodes.at i) p w))
 
-      unfoldable pub referenceStep : VisitReference → ℕ → World A → Flow A
-      referenceStep visit i w =
+      unfoldable pub reference_step : VisitReference → ℕ → World A → Flow A
+      reference_step visit i w =
           cond (detail_budget_exhausted q w.state) (halt (add_load_if_boxed enter emit t reason.OtherLimit n box w))
           (go (visit (enter (reference_at i) t) (c.references.at i) p w))
 
-      unfoldable pub cellBody : VisitReference → World A → Flow A
-      cellBody visit w =
-          bind (bind (bind (each geometryStep c.geometries.count 0 w)
-          (each textStep c.texts.count 0))
-          (each nodeStep c.nodes.count 0))
-          (each (referenceStep visit) c.references.count 0)
+      unfoldable pub cell_body : VisitReference → World A → Flow A
+      cell_body visit w =
+          bind (bind (bind (each geometry_step c.geometries.count 0 w)
+          (each text_step c.texts.count 0))
+          (each node_step c.nodes.count 0))
+          (each (reference_step visit) c.references.count 0)
 
     -- "A circle of cells ends in a proxy if the cell met again has a box, else in nothing."
     unfoldable pub visit_found_cell : VisitReference → P → ℕ → Placement → Option CellRecord → World A → World A
@@ -107,23 +107,23 @@ module _ {P A : Type 0} (enter : Step → P → P) (emit : P → Event → ℕ �
         (cond (detail_cells_full w.state) (add_load_if_boxed enter emit t reason.CellLimit n box w)
         (cond (detail_budget_exhausted q w.state) (add_load_if_boxed enter emit t reason.OtherLimit n box w)
         (cond (is_marked w.marks (open_place cells n)) (add_load_if_boxed enter emit t reason.Circle n box w)
-        (set_mark (open_place cells n) 0 (ending (cellBody t n c p box visit (say enter emit t detail_cell (set_mark (open_place cells n) 1 w))))))))
+        (set_mark (open_place cells n) 0 (ending (cell_body t n c p box visit (say enter emit t detail_cell (set_mark (open_place cells n) 1 w))))))))
 
     -- ---- `visit_source`
 
-    unfoldable pub visitSourceWith : VisitReference → VisitSource
-    visitSourceWith visit t (Geometry n) p w = go (push_geometry enter emit S q t n p w)
-    visitSourceWith visit t (Text n) p w = go (push_text enter emit S q t n p w)
-    visitSourceWith visit t (Node n) p w = push_node enter emit S q t n p w
-    visitSourceWith visit t (Reference n) p w = go (visit t n p w)
-    visitSourceWith visit t (Cell n) p w = go (visit_found_cell visit t n p (S.cell n) w)
+    unfoldable pub visit_source_with : VisitReference → VisitSource
+    visit_source_with visit t (Geometry n) p w = go (push_geometry enter emit S q t n p w)
+    visit_source_with visit t (Text n) p w = go (push_text enter emit S q t n p w)
+    visit_source_with visit t (Node n) p w = push_node enter emit S q t n p w
+    visit_source_with visit t (Reference n) p w = go (visit t n p w)
+    visit_source_with visit t (Cell n) p w = go (visit_found_cell visit t n p (S.cell n) w)
 
     -- ---- `visit_reference` at a depth, given how a source is visited at the depth below
 
     module _ (visit : VisitSource) (depth : ℕ) (t : P) (r : PreparedReference) (p : Placement) (sourceBox world_box : WorldBBox) where
       -- one member, `units` being one member's share of the draw units
-      unfoldable pub memberStep : ℕ → ℕ → ℕ → World A → Flow A
-      memberStep units column row w =
+      unfoldable pub member_step : ℕ → ℕ → ℕ → World A → Flow A
+      member_step units column row w =
           let placement = p · grid_member_transform r.grid column row in
           let box = transform_bbox placement sourceBox in
           let size = reference_screen_size box q.zoom (source_is_degenerate sourceBox) in
@@ -135,47 +135,47 @@ module _ {P A : Type 0} (enter : Step → P → P) (emit : P → Event → ℕ �
           (cond (collapses test) (go (add_load enter emit here (collapse_reason test) (label r.source) box w))
           (halt_with_member t here (label r.source) box world_box (visit here r.source placement w)))))
 
-      unfoldable pub columnStep : ℕ → ℕ → World A → Flow A
-      columnStep units column w = each (memberStep units column) r.grid.rows 0 w
+      unfoldable pub column_step : ℕ → ℕ → World A → Flow A
+      column_step units column w = each (member_step units column) r.grid.rows 0 w
 
       -- its draw units counted, the reference collapses or its members are visited, column by column
-      unfoldable pub visitCountedReference : Units → World A → World A
-      visitCountedReference u w =
+      unfoldable pub visit_counted_reference : Units → World A → World A
+      visit_counted_reference u w =
           let size = reference_screen_size world_box q.zoom (source_is_degenerate sourceBox) in
           let test = collapse_test size.width size.height (grid_count r.grid) u.units depth false in
           cond (collapses test)
           (add_load enter emit t (collapse_reason test) (label r.source) world_box (with_scratch u w))
-          (ending (each (columnStep (source_units u.units (grid_count r.grid))) r.grid.columns 0 (with_scratch u w)))
+          (ending (each (column_step (source_units u.units (grid_count r.grid))) r.grid.columns 0 (with_scratch u w)))
 
     -- `let Some(local_bbox) = reference_bbox(..) else { return; }` and what follows
-    unfoldable pub visitBoxedReference : VisitSource → ℕ → P → PreparedReference → Placement → WorldBBox → Bounds → World A → World A
-    visitBoxedReference visit depth t r p sourceBox Absent w = w
-    visitBoxedReference visit depth t r p sourceBox (Box a b c d) w =
+    unfoldable pub visit_boxed_reference : VisitSource → ℕ → P → PreparedReference → Placement → WorldBBox → Bounds → World A → World A
+    visit_boxed_reference visit depth t r p sourceBox Absent w = w
+    visit_boxed_reference visit depth t r p sourceBox (Box a b c d) w =
         let world_box = transform_bbox p (bbox a b c d) in
         cond (not (overlaps world_box q.view)) (say enter emit t culled_reference w)
         (cond (detail_cells_full w.state) (add_load enter emit t reason.CellLimit (label r.source) world_box w)
         (cond (detail_budget_exhausted q w.state) (add_load enter emit t reason.OtherLimit (label r.source) world_box w)
-        (visitCountedReference visit depth t r p sourceBox world_box (reference_draw_units S cells depth r w.counts w.marks) w)))
+        (visit_counted_reference visit depth t r p sourceBox world_box (reference_draw_units S cells depth r w.counts w.marks) w)))
 
     -- `let Some(source_bbox) = reference.source_bbox else { return; }`
-    unfoldable pub visitSourcedReference : VisitSource → ℕ → P → PreparedReference → Placement → Bounds → World A → World A
-    visitSourcedReference visit depth t r p Absent w = w
-    visitSourcedReference visit depth t r p (Box a b c d) w =
-        visitBoxedReference visit depth t r p (bbox a b c d) (reference_bbox r.grid (bbox a b c d)) w
+    unfoldable pub visit_sourced_reference : VisitSource → ℕ → P → PreparedReference → Placement → Bounds → World A → World A
+    visit_sourced_reference visit depth t r p Absent w = w
+    visit_sourced_reference visit depth t r p (Box a b c d) w =
+        visit_boxed_reference visit depth t r p (bbox a b c d) (reference_bbox r.grid (bbox a b c d)) w
 
     -- (A number that names no reference is passed over; no sheet that passes question 7 has one.)
     unfoldable pub visit_found_reference : VisitSource → ℕ → P → Placement → Option PreparedReference → World A → World A
     visit_found_reference visit depth t p none w = w
-    visit_found_reference visit depth t p (some r) w = visitSourcedReference visit depth t r p r.source_bbox w
+    visit_found_reference visit depth t p (some r) w = visit_sourced_reference visit depth t r p r.source_bbox w
 
     -- ---- the three visits. At depth 0, as at depth 1, a reference collapses and no source is visited.
 
     unfoldable pub visit_reference : ℕ → VisitReference
     visit_reference zero t n p w = visit_found_reference (λ t s p w. go w) 0 t p (S.reference n) w
-    visit_reference (suc depth) t n p w = visit_found_reference (visitSourceWith (visit_reference depth)) (suc depth) t p (S.reference n) w
+    visit_reference (suc depth) t n p w = visit_found_reference (visit_source_with (visit_reference depth)) (suc depth) t p (S.reference n) w
 
     unfoldable pub visit_source : ℕ → VisitSource
-    visit_source depth = visitSourceWith (visit_reference depth)
+    visit_source depth = visit_source_with (visit_reference depth)
 
     unfoldable pub visit_cell : ℕ → VisitReference
     visit_cell depth t n p w = visit_found_cell (visit_reference depth) t n p (S.cell n) w

@@ -61,12 +61,12 @@ module _ {f : Fixed} (g : Given f) (o k m : List ℕ) where
     abbrev left : Output
     left = visited g o nk nm
 
-    pub sweep-delivered : (length o < max_total) → (s : ScenePlan) (b k₁ m₁ : List ℕ)
+    pub sweep_delivered : (length o < max_total) → (s : ScenePlan) (b k₁ m₁ : List ℕ)
         → (ran : world s b k₁ m₁ ≡ swept g o (length (take uk k)) (length (take um m)))
         → (a : Answer) (b₁ : List ℕ) → (finished : (k m : List ℕ) → outcome a b₁ k m ≡ answered (say (totals s) (world s b k m)))
         → outcome a b₁ (k₁ ++ drop uk k) (m₁ ++ drop um m) ≡ delivered (tape_of g.sheet cells (query g)) nk nm o k m
     unfolding swept visited zeroed
-    sweep-delivered small s b k₁ m₁ ran a b₁ finished =
+    sweep_delivered small s b k₁ m₁ ran a b₁ finished =
         let marks-named = length-take-le um m marks-lent ∙ marks-used in
         let counts-named = length-take-le uk k counts-lent ∙ counts-used in
         let w : world s b k₁ m₁ ≡ swept g o nk nm = ran ∙ (λ i. swept g o (counts-named i) (marks-named i)) in

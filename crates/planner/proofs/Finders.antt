@@ -36,27 +36,27 @@ module _ (s finder : List ℕ) (q : Query) (o k m : List ℕ) where
   refused_agrees number offset e = with_refused number offset e ∙ sym (sheet_refused max_depth s q o k m number offset e)
 
   module _ (counts : Counts) (sound : check_sheet s ≡ checked.Sound counts) where
-    pub with-own : belongs finder s ≡ true → outcome_with s finder q o k m ≡ sound_outcome (sheet_of s) counts.cells q o k m
+    pub with_own : belongs finder s ≡ true → outcome_with s finder q o k m ≡ sound_outcome (sheet_of s) counts.cells q o k m
     unfolding outcome_with_up_to
-    with-own own = ap (λ (c : Checked). checked_with_up_to max_depth c s finder q o k m) sound ∙ rw own
+    with_own own = ap (λ (c : Checked). checked_with_up_to max_depth c s finder q o k m) sound ∙ rw own
 
-    pub with-foreign : belongs finder s ≡ false → outcome_with s finder q o k m ≡ turned_away o k m
+    pub with_foreign : belongs finder s ≡ false → outcome_with s finder q o k m ≡ turned_away o k m
     unfolding outcome_with_up_to
-    with-foreign foreign = ap (λ (c : Checked). checked_with_up_to max_depth c s finder q o k m) sound ∙ rw foreign
+    with_foreign foreign = ap (λ (c : Checked). checked_with_up_to max_depth c s finder q o k m) sound ∙ rw foreign
 
     -- with the sheet's own finder the look-ups show the sheet
-    pub own-seen : belongs finder s ≡ true → sound_outcome (sheet_with s finder counts) counts.cells q o k m ≡ outcome_with s finder q o k m
-    own-seen own =
+    pub own_seen : belongs finder s ≡ true → sound_outcome (sheet_with s finder counts) counts.cells q o k m ≡ outcome_with s finder q o k m
+    own_seen own =
         let same = ap (λ (n : Counts). sheet_with s finder n) (sound_counts s counts sound) ∙ own_finder_gives_the_sheet s finder own in
-        ap (λ (S : Sheet). sound_outcome S counts.cells q o k m) same ∙ sym (with-own own)
+        ap (λ (S : Sheet). sound_outcome S counts.cells q o k m) same ∙ sym (with_own own)
 
   -- with the sheet's own finder a call is one without
   pub own_agrees : belongs finder s ≡ true → outcome_with s finder q o k m ≡ outcome_of s q o k m
-  own_agrees own = by-check (check_sheet s) refl
+  own_agrees own = by_check (check_sheet s) refl
     where
-      by-check : (c : Checked) → check_sheet s ≡ c → outcome_with s finder q o k m ≡ outcome_of s q o k m
-      by-check (checked.Refused number offset) e = refused_agrees number offset e
-      by-check (checked.Sound counts) e = with-own counts e own ∙ sym (sheet_sound max_depth s q o k m counts e)
+      by_check : (c : Checked) → check_sheet s ≡ c → outcome_with s finder q o k m ≡ outcome_of s q o k m
+      by_check (checked.Refused number offset) e = refused_agrees number offset e
+      by_check (checked.Sound counts) e = with_own counts e own ∙ sym (sheet_sound max_depth s q o k m counts e)
 
 -- and without a finder they show it too
 pub none_seen : (s : List ℕ) (q : Query) (o k m : List ℕ) (counts : Counts) → check_sheet s ≡ checked.Sound counts
@@ -75,20 +75,20 @@ refused_sheet_agrees s finder q o k m number offset e = refused_agrees s finder 
 pub different_finder_is_refused : DifferentFinderIsRefused
 unfolding turned_away
 different_finder_is_refused s finder q o k m valid i below differs =
-    with-foreign s finder q o k m _ (valid_sound s valid) (different_is_turned_away s finder i below differs)
+    with_foreign s finder q o k m _ (valid_sound s valid) (different_is_turned_away s finder i below differs)
 
 pub short_finder_is_refused : ShortFinderIsRefused
 unfolding turned_away
-short_finder_is_refused s finder q o k m valid short = with-foreign s finder q o k m _ (valid_sound s valid) (short_is_turned_away s finder short)
+short_finder_is_refused s finder q o k m valid short = with_foreign s finder q o k m _ (valid_sound s valid) (short_is_turned_away s finder short)
 
 -- whatever list is lent, a call with it is one without a finder, or turned away
 pub agrees_or_turned_away : (s finder : List ℕ) (q : Query) (o k m : List ℕ) → (outcome_with s finder q o k m ≡ outcome_of s q o k m) ⊎ (outcome_with s finder q o k m ≡ turned_away o k m)
-agrees_or_turned_away s finder q o k m = by-check (check_sheet s) refl (belongs finder s) refl
+agrees_or_turned_away s finder q o k m = by_check (check_sheet s) refl (belongs finder s) refl
   where
-    by-check : (c : Checked) → check_sheet s ≡ c → (b : Bool) → belongs finder s ≡ b → (outcome_with s finder q o k m ≡ outcome_of s q o k m) ⊎ (outcome_with s finder q o k m ≡ turned_away o k m)
-    by-check c e true own = inl (own_agrees s finder q o k m own)
-    by-check (checked.Refused number offset) e false foreign = inl (refused_agrees s finder q o k m number offset e)
-    by-check (checked.Sound counts) e false foreign = inr (with-foreign s finder q o k m counts e foreign)
+    by_check : (c : Checked) → check_sheet s ≡ c → (b : Bool) → belongs finder s ≡ b → (outcome_with s finder q o k m ≡ outcome_of s q o k m) ⊎ (outcome_with s finder q o k m ≡ turned_away o k m)
+    by_check c e true own = inl (own_agrees s finder q o k m own)
+    by_check (checked.Refused number offset) e false foreign = inl (refused_agrees s finder q o k m number offset e)
+    by_check (checked.Sound counts) e false foreign = inr (with_foreign s finder q o k m counts e foreign)
 
 not_turned_away : (s finder : List ℕ) (q : Query) (o k m : List ℕ) → (outcome_with s finder q o k m).number ≡ 0 → outcome_with s finder q o k m ≡ outcome_of s q o k m
 unfolding turned_away

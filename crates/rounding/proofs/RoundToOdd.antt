@@ -44,10 +44,10 @@ module _ (m n d v : ℕ) (D : 0 < d) (vp : 0 < v) (o : m % 2 ≡ 1) (hi : n < m 
 
   rest_hi : rest < r * d + d
   unfolding rest
-  rest_hi = go (q * (d * U)) (r * d) (m * d) whole hi (one-le r r_odd)
+  rest_hi = go (q * (d * U)) (r * d) (m * d) whole hi (one_le r r_odd)
     where
-      one-le : (z : ℕ) → z % 2 ≡ 1 → 1 * d ≤ z * d
-      one-le z e = mul-le-mul_right d (pos z e)
+      one_le : (z : ℕ) → z % 2 ≡ 1 → 1 * d ≤ z * d
+      one_le z e = mul-le-mul_right d (pos z e)
         where
           pos : (z : ℕ) → z % 2 ≡ 1 → 1 ≤ z
           pos z e = omega arith
@@ -57,10 +57,10 @@ module _ (m n d v : ℕ) (D : 0 < d) (vp : 0 < v) (o : m % 2 ≡ 1) (hi : n < m 
 
   rest_lo : (r * d < rest + d) × (q * (d * U) + rest ≡ n)
   unfolding rest
-  rest_lo = go (q * (d * U)) (r * d) (m * d) whole lo (one-le r r_odd)
+  rest_lo = go (q * (d * U)) (r * d) (m * d) whole lo (one_le r r_odd)
     where
-      one-le : (z : ℕ) → z % 2 ≡ 1 → 1 * d ≤ z * d
-      one-le z e = mul-le-mul_right d (pos z e)
+      one_le : (z : ℕ) → z % 2 ≡ 1 → 1 * d ≤ z * d
+      one_le z e = mul-le-mul_right d (pos z e)
         where
           pos : (z : ℕ) → z % 2 ≡ 1 → 1 ≤ z
           pos z e = omega arith

@@ -14,24 +14,24 @@ module _ (w h : Float) (members units depth : ℕ) (force : Bool) where
   collapse_forced a = rw (sym a)
 
   module _ (a : false ≡ force || leb depth 1) where
-    pub collapse-small : true ≡ lt w ref_load_threshold_px || lt h ref_load_threshold_px → test.Side ≡ collapse_test w h members units depth force
+    pub collapse_small : true ≡ lt w ref_load_threshold_px || lt h ref_load_threshold_px → test.Side ≡ collapse_test w h members units depth force
     unfolding collapse_test
-    collapse-small b = rw (sym a, sym b)
+    collapse_small b = rw (sym a, sym b)
 
     module _ (b : false ≡ lt w ref_load_threshold_px || lt h ref_load_threshold_px) where
-      pub collapse-many : ltb ref_max_grid_expansion members ≡ true → test.Grid ≡ collapse_test w h members units depth force
+      pub collapse_many : ltb ref_max_grid_expansion members ≡ true → test.Grid ≡ collapse_test w h members units depth force
       unfolding collapse_test
-      collapse-many d = rw (sym a, sym b, d)
+      collapse_many d = rw (sym a, sym b, d)
 
       module _ (d : ltb ref_max_grid_expansion members ≡ false) where
-        pub collapse-few : ltb units ref_dense_grid_min_instances ≡ true → test.Passed ≡ collapse_test w h members units depth force
+        pub collapse_few : ltb units ref_dense_grid_min_instances ≡ true → test.Passed ≡ collapse_test w h members units depth force
         unfolding collapse_test
-        collapse-few e = rw (sym a, sym b, d, e)
+        collapse_few e = rw (sym a, sym b, d, e)
 
-        pub collapse-dense : ltb units ref_dense_grid_min_instances ≡ false → is_dense (size w h) units ≡ true → test.Density ≡ collapse_test w h members units depth force
+        pub collapse_dense : ltb units ref_dense_grid_min_instances ≡ false → is_dense (size w h) units ≡ true → test.Density ≡ collapse_test w h members units depth force
         unfolding collapse_test
-        collapse-dense e f = rw (sym a, sym b, d, e, f)
+        collapse_dense e f = rw (sym a, sym b, d, e, f)
 
-        pub collapse-sparse : ltb units ref_dense_grid_min_instances ≡ false → is_dense (size w h) units ≡ false → test.Passed ≡ collapse_test w h members units depth force
+        pub collapse_sparse : ltb units ref_dense_grid_min_instances ≡ false → is_dense (size w h) units ≡ false → test.Passed ≡ collapse_test w h members units depth force
         unfolding collapse_test
-        collapse-sparse e f = rw (sym a, sym b, d, e, f)
+        collapse_sparse e f = rw (sym a, sym b, d, e, f)

@@ -25,7 +25,7 @@ use Rattle.plan_rules.specs.Outcome.{Outcome, outcome_of}
 use Rattle.plan_rules.specs.Samples.{whole, spot, page, text_at_spot, viewing}
 use Rattle.plan_rules.proofs.Cases.Opened.{opened}
 use Rattle.plan_rules.proofs.Cases.OpenedSheet.{opened_sheet}
-use Rattle.paths.specs.Path.{Path, a_text, to_text, to_reference, through-member, at-text, step}
+use Rattle.paths.specs.Path.{Path, a_text, to_text, to_reference, through_member_lem, at_text, step}
 use Rattle.cover.specs.Trace.{Trace, All, none_left, and_then}
 use Rattle.cover.specs.Demand3.{events_of, IsTape}
 use Rattle.cover.proofs.Examples.Boxes.{without_totals}
@@ -116,7 +116,7 @@ item = a_text 0 (text_at_spot 20 10) (member_at identity reference 0 0)
 
 pub turned_leads : LeadsTo (sheet_of turned) 0 path item
 unfolding turned opened opened_sheet
-turned_leads = step (to_reference refl (lit≤ tt)) (step (through-member refl (lit≤ tt) (lit≤ tt)) (step (to_text refl (lit≤ tt)) (at-text refl)))
+turned_leads = step (to_reference refl (lit≤ tt)) (step (through_member_lem refl (lit≤ tt) (lit≤ tt)) (step (to_text refl (lit≤ tt)) (at_text refl)))
 
 -- where it is exactly
 abbrev exactly : FractionVector

@@ -19,7 +19,7 @@ use Rattle.plan_rules.specs.World.{Query, world}
 use Rattle.plan_rules.specs.Plan.{plan}
 use Rattle.plan_rules.specs.Tape.{note}
 use Rattle.plan_rules.proofs.Simulation.Premises.{Premises}
-use Rattle.paths.specs.Path.{Path, references, a_text, a_point, at-text, at-point}
+use Rattle.paths.specs.Path.{Path, references, a_text, a_point, at_text, at_point}
 use Rattle.paths.proofs.Leads.{one_item}
 use Rattle.cover.specs.Trace.{Trace, enter, path_of, events}
 use Rattle.cover.proofs.TagPaths.{start, tag_leads, tag_leads_here, references_path, paths_all, all_map}
@@ -81,18 +81,18 @@ module _ (S : Sheet) (q : Query) (slanted : SlantedSheet S) where
   text_near : (d : ℕ) (t : List Step) (n : ℕ) (x : PreparedText) (p : Placement) → Stands d t (Text n) p → S.text n ≡ some x → Fact t (text n (transform_point2 p x.origin))
   text_near d t n x p h e l =
       let i = a_text n x h.exact in
-      (i, tag_leads_here i h.led (at-text e), places_text (moved_near (references t) l p h.exact (h.near l) x.origin (slanted.text n x e)))
+      (i, tag_leads_here i h.led (at_text e), places_text (moved_near (references t) l p h.exact (h.near l) x.origin (slanted.text n x e)))
 
   point_near : (d : ℕ) (t : List Step) (n : ℕ) (x : NodeRecord) (j : ℕ) (p : Placement) → Stands d t (Node n) p → S.node n ≡ some x → j < x.count
       → Fact (point_at j ∷ t) (point x.layer x.node_type (transform_point2 p (x.point j)))
   point_near d t n x j p h e j< l =
       let i = a_point n x j h.exact in
-      (i, tag_leads (point_at j ∷ []) i h.led (at-point e j<), places_point (moved_near (references t) l p h.exact (h.near l) (x.point j) (slanted.point n x j e j<)))
+      (i, tag_leads (point_at j ∷ []) i h.led (at_point e j<), places_point (moved_near (references t) l p h.exact (h.near l) (x.point j) (slanted.point n x j e j<)))
 
   premises : Premises enter S q Stands Fact
   premises = record {
     at-batch = standing.stands_batch member_at S identity q.root Near;
-    at-text = standing.stands_text member_at S identity q.root Near;
+    at_text = standing.stands_text member_at S identity q.root Near;
     at-node = standing.stands_node member_at S identity q.root Near;
     at-reference = standing.stands_reference member_at S identity q.root Near;
     at-member = standing.stands_member member_at S identity q.root Near keeps;

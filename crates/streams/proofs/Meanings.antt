@@ -29,9 +29,9 @@ module _ (got error : ℤ) (most : ℕ) {count : ℕ} (counted : count ≡ clamp
     unfolding moved_of
     moved_nothing ended = rw (← counted, eq-eqb _ _ none, eq-eqb _ _ ended)
 
-    pub moved-not : (of_z w64 got ≡ 0 → ⊥) → {m : Moved} → m ≡ unmoved_of error → m ≡ moved_of got error most
+    pub moved_not : (of_z w64 got ≡ 0 → ⊥) → {m : Moved} → m ≡ unmoved_of error → m ≡ moved_of got error most
     unfolding moved_of
-    moved-not below {m} is = rw (← counted, eq-eqb _ _ none, ne_eqb _ _ below, is)
+    moved_not below {m} is = rw (← counted, eq-eqb _ _ none, ne_eqb _ _ below, is)
 
 clamped_within : (got : ℤ) (most : ℕ) → clamp_len got most ≤ most
 clamped_within (pos k) most = omega arith

@@ -22,7 +22,7 @@ use Rattle.plan_rules.specs.Event.{skipped_member, culled_reference}
 use Rattle.plan_rules.specs.World.{detail_budget_exhausted, Flow, go, halt}
 use Rattle.plan_rules.specs.Visit as visit
 use Rattle.plan_rules.specs.Visit.{collapse_reason}
-use Rattle.plan_rules.specs.OnTape.{Given, Output, query, say, add_load, halt_with_member, VisitSource, memberStep}
+use Rattle.plan_rules.specs.OnTape.{Given, Output, query, say, add_load, halt_with_member, VisitSource, member_step}
 
 -- ---- where member i stands
 
@@ -33,8 +33,8 @@ module _ (i columns : ℕ) where
   has_a_row (suc rows) h = omega arith
 
   module _ (rows : ℕ) (h : i < columns * rows) where
-    pub column-within : i / rows < columns
-    column-within = (div-lt_iff_lt-mul (has_a_row rows h)).1 h
+    pub column_within : i / rows < columns
+    column_within = (div-lt_iff_lt-mul (has_a_row rows h)).1 h
 
     pub row_within : i % rows < rows
     row_within = mod-lt i (has_a_row rows h)
@@ -56,7 +56,7 @@ module _ (r : PreparedReference) (p : Placement) (sourceBox : WorldBBox) (column
 module _ {f : Fixed} (g : Given f) (on : VisitSource g) (d : ℕ) (r : PreparedReference) (p : Placement) (sourceBox world_box : WorldBBox) (units column row : ℕ) (w : Output)
     {l : ℕ} {placement : Placement} {box : WorldBBox} (known : Placed r p sourceBox column row l placement box) where
   abbrev step : Flow (List ℕ)
-  step = memberStep g on d r p sourceBox world_box units column row w
+  step = member_step g on d r p sourceBox world_box units column row w
 
   abbrev size_of : WorldBBox → ScreenSize
   size_of b = reference_screen_size b f.options.zoom (source_is_degenerate sourceBox)
@@ -65,27 +65,27 @@ module _ {f : Fixed} (g : Given f) (on : VisitSource g) (d : ℕ) (r : PreparedR
   test_of b = collapse_test (size_of b).width (size_of b).height 1 units d false
 
   pub try_exhausted : detail_budget_exhausted (query g) w.state ≡ true → (v : Output) → v ≡ add_load reason.OtherLimit l world_box w → halt v ≡ step
-  unfolding visit.memberStep
+  unfolding visit.member_step
   try_exhausted e v loaded = ap halt (loaded ∙ ap (λ (n : ℕ). add_load reason.OtherLimit n world_box w) known.labelled) ∙ (rw e)
 
   module _ (room : detail_budget_exhausted (query g) w.state ≡ false) where
-    pub try-culled : overlaps box f.options.view ≡ false → (v : Output) → v ≡ say culled_reference w → go v ≡ step
-    unfolding visit.memberStep
-    try-culled e v said = ap go said ∙ (rw (room, ← known.boxed, e))
+    pub try_culled : overlaps box f.options.view ≡ false → (v : Output) → v ≡ say culled_reference w → go v ≡ step
+    unfolding visit.member_step
+    try_culled e v said = ap go said ∙ (rw (room, ← known.boxed, e))
 
     module _ (seen : overlaps box f.options.view ≡ true) where
       -- the tape does not show which member was skipped
-      pub try-skipped : is_subpixel (size_of box) ≡ true → (v : Output) → ((degenerate : Bool) (b : WorldBBox) → v ≡ say (skipped_member degenerate b) w) → go v ≡ step
-      unfolding visit.memberStep
-      try-skipped e v said =
+      pub try_skipped : is_subpixel (size_of box) ≡ true → (v : Output) → ((degenerate : Bool) (b : WorldBBox) → v ≡ say (skipped_member degenerate b) w) → go v ≡ step
+      unfolding visit.member_step
+      try_skipped e v said =
           ap go (said (source_is_degenerate sourceBox) box) ∙ (rw (room, ← known.boxed, seen, e))
 
       module _ (large : is_subpixel (size_of box) ≡ false) where
-        pub try-collapsed : collapses (test_of box) ≡ true → (v : Output) → v ≡ add_load (collapse_reason (test_of box)) l box w → go v ≡ step
-        unfolding visit.memberStep
-        try-collapsed e v loaded = ap go (loaded ∙ ap (λ (n : ℕ). add_load (collapse_reason (test_of box)) n box w) known.labelled) ∙ (rw (room, ← known.boxed, seen, large, e))
+        pub try_collapsed : collapses (test_of box) ≡ true → (v : Output) → v ≡ add_load (collapse_reason (test_of box)) l box w → go v ≡ step
+        unfolding visit.member_step
+        try_collapsed e v loaded = ap go (loaded ∙ ap (λ (n : ℕ). add_load (collapse_reason (test_of box)) n box w) known.labelled) ∙ (rw (room, ← known.boxed, seen, large, e))
 
         -- the source is left to be visited
-        pub try-opens : collapses (test_of box) ≡ false → halt_with_member (label r.source) box world_box (on tt r.source placement w) ≡ step
-        unfolding visit.memberStep
-        try-opens e = rw (room, ← known.boxed, seen, large, e, known.at)
+        pub try_opens : collapses (test_of box) ≡ false → halt_with_member (label r.source) box world_box (on tt r.source placement w) ≡ step
+        unfolding visit.member_step
+        try_opens e = rw (room, ← known.boxed, seen, large, e, known.at)

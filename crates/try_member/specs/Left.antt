@@ -9,12 +9,12 @@ use Rattle.records.specs.Sources.{label}
 use Rattle.plan_rules.specs.declared.ScenePlan.{ScenePlan}
 use Rattle.plan_rules.specs.declared.Fixed.{Fixed}
 use Rattle.plan_rules.specs.World.{world, Flow, flow}
-use Rattle.plan_rules.specs.OnTape.{Given, Output, halt_with_member, VisitSource, memberStep}
+use Rattle.plan_rules.specs.OnTape.{Given, Output, halt_with_member, VisitSource, member_step}
 use Rattle.try_member.specs.declared.Tried.{Tried}
 
 module _ {f : Fixed} (g : Given f) where
   abbrev pub member : VisitSource g → ℕ → PreparedReference → Placement → WorldBBox → WorldBBox → ℕ → ℕ → Output → Flow (List ℕ)
-  member on depth r p sourceBox world_box units i w = memberStep g on depth r p sourceBox world_box units (i / r.grid.rows) (i % r.grid.rows) w
+  member on depth r p sourceBox world_box units i w = member_step g on depth r p sourceBox world_box units (i / r.grid.rows) (i % r.grid.rows) w
 
   -- the visit of its source; or whether the visit of the reference goes on
   abbrev pub left_of_member : VisitSource g → PreparedReference → WorldBBox → Tried → Output → Flow (List ℕ)

@@ -32,17 +32,17 @@ module _ (s f : List ℕ) (kinds : Counts) (depth : ℕ) (r : PreparedReference)
   reference_empty h = sym (Paths.units_empty (sheet_with s f kinds) kinds.cells depth r k m (eq-eqb _ _ (sym grid ∙ h)))
 
   module _ (members : count ≡ 0 → ⊥) where
-    pub reference-shallow : (units : ℕ) → depth ≤ 1 → units ≡ count ⊠ 1 → counted units k m ≡ reference_draw_units (sheet_with s f kinds) kinds.cells depth r k m
-    reference-shallow units h e =
+    pub reference_shallow : (units : ℕ) → depth ≤ 1 → units ≡ count ⊠ 1 → counted units k m ≡ reference_draw_units (sheet_with s f kinds) kinds.cells depth r k m
+    reference_shallow units h e =
         ap (λ (u : ℕ). counted u k m) (e ∙ ap (λ (g : ℕ). g ⊠ 1) grid)
         ∙ sym (Paths.units_shallow (sheet_with s f kinds) kinds.cells depth r k m (ne_eqb _ _ (λ z. members (grid ∙ z))) (le-leb _ _ h))
 
-    pub reference-deep : (sourceCount units : ℕ) (k' m' : List ℕ)
+    pub reference_deep : (sourceCount units : ℕ) (k' m' : List ℕ)
         → 1 < depth
         → counted sourceCount k' m' ≡ source_draw_units (sheet_with s f kinds) kinds.cells (depth - 1) r.source k m
         → units ≡ count ⊠ sourceCount
         → counted units k' m' ≡ reference_draw_units (sheet_with s f kinds) kinds.cells depth r k m
-    reference-deep sourceCount units k' m' h source e =
+    reference_deep sourceCount units k' m' h source e =
         rw (Paths.units_deep (sheet_with s f kinds) kinds.cells depth r k m (ne_eqb _ _ (λ z. members (grid ∙ z))) (lt-leb _ _ h), ← source, ← grid, ← e)
 
 -- ---- a reference by number
@@ -92,23 +92,23 @@ module _ (s f : List ℕ) (kinds : Counts) (depth cell : ℕ) (k m : List ℕ) w
   cell_missing looked told = sym (Paths.units_cell_missing (sheet_with s f kinds) kinds.cells depth cell k m (item_looked cells s f kinds cell looked told))
 
   module _ {found : Found} (looked : found ≡ look s f kinds 5 cell) (at : ℕ) (told : found ≡ At at) where
-    pub cell-depth-zero : depth ≡ 0 → counted 1 k m ≡ cell_draw_units (sheet_with s f kinds) kinds.cells depth cell k m
-    cell-depth-zero h = sym (Paths.units-depth-zero (sheet_with s f kinds) kinds.cells depth cell k m (cell_record_at s at) (item_looked cells s f kinds cell looked told) (eq-eqb _ _ h))
+    pub cell_depth_zero : depth ≡ 0 → counted 1 k m ≡ cell_draw_units (sheet_with s f kinds) kinds.cells depth cell k m
+    cell_depth_zero h = sym (Paths.units_depth_zero (sheet_with s f kinds) kinds.cells depth cell k m (cell_record_at s at) (item_looked cells s f kinds cell looked told) (eq-eqb _ _ h))
 
     module _ (deep : depth ≡ 0 → ⊥) where
-      pub cell-remembered : (count : ℕ)
+      pub cell_remembered : (count : ℕ)
           → is_marked m (remembered_place kinds.cells depth cell) ≡ true
           → count ≡ get_or k (count_place kinds.cells depth cell) 0
           → counted count k m ≡ cell_draw_units (sheet_with s f kinds) kinds.cells depth cell k m
-      cell-remembered count h e =
+      cell_remembered count h e =
           ap (λ (u : ℕ). counted u k m) e
-          ∙ sym (Paths.units-remembered (sheet_with s f kinds) kinds.cells depth cell k m (cell_record_at s at) (item_looked cells s f kinds cell looked told) (ne_eqb _ _ deep) h)
+          ∙ sym (Paths.units_remembered (sheet_with s f kinds) kinds.cells depth cell k m (cell_record_at s at) (item_looked cells s f kinds cell looked told) (ne_eqb _ _ deep) h)
 
       module _ (fresh : is_marked m (remembered_place kinds.cells depth cell) ≡ false) where
-        pub cell-circle : is_marked m (counting_place kinds.cells cell) ≡ true → counted 1 k m ≡ cell_draw_units (sheet_with s f kinds) kinds.cells depth cell k m
-        cell-circle h = sym (Paths.units-circle (sheet_with s f kinds) kinds.cells depth cell k m (cell_record_at s at) (item_looked cells s f kinds cell looked told) (ne_eqb _ _ deep) fresh h)
+        pub cell_circle : is_marked m (counting_place kinds.cells cell) ≡ true → counted 1 k m ≡ cell_draw_units (sheet_with s f kinds) kinds.cells depth cell k m
+        cell_circle h = sym (Paths.units_circle (sheet_with s f kinds) kinds.cells depth cell k m (cell_record_at s at) (item_looked cells s f kinds cell looked told) (ne_eqb _ _ deep) fresh h)
 
-        pub cell-counted : (r : PreparedCell) (count : ℕ) (m₁ m₂ m₃ m₄ k₂ k₄ : List ℕ)
+        pub cell_counted : (r : PreparedCell) (count : ℕ) (m₁ m₂ m₃ m₄ k₂ k₄ : List ℕ)
             → is_marked m (counting_place kinds.cells cell) ≡ false
             → m₁ ≡ set m (counting_place kinds.cells cell) 1
             → r ≡ cell_at s at
@@ -118,10 +118,10 @@ module _ (s f : List ℕ) (kinds : Counts) (depth cell : ℕ) (k m : List ℕ) w
             → k₄ ≡ set k₂ (count_place kinds.cells depth cell) count
             → counted count k₄ m₄ ≡ cell_draw_units (sheet_with s f kinds) kinds.cells depth cell k m
         unfolding remember cell_record_at
-        cell-counted r count m₁ m₂ m₃ m₄ k₂ k₄ closed opened read body left remembered stored =
+        cell_counted r count m₁ m₂ m₃ m₄ k₂ k₄ closed opened read body left remembered stored =
             let whole : fold (added_at s f kinds depth at) (cell_at s at).references 0 (counted (cell_at s at).direct_draw_units k (set m (counting_place kinds.cells cell) 1)) ≡ counted count k₂ m₂ =
             ap (λ (x : PreparedCell). fold (added_at s f kinds depth at) x.references 0 (counted x.direct_draw_units k (set m (counting_place kinds.cells cell) 1))) (sym read)
             ∙ ap (λ (x : List ℕ). fold (added_at s f kinds depth at) r.references 0 (counted r.direct_draw_units k x)) (sym opened)
             ∙ body in
             rw (remembered, left, stored)
-            (sym (Paths.units-counted (sheet_with s f kinds) kinds.cells depth cell k m (cell_record_at s at) (item_looked cells s f kinds cell looked told) (ne_eqb _ _ deep) fresh closed ∙ ap (remember (sheet_with s f kinds) kinds.cells depth cell) whole))
+            (sym (Paths.units_counted (sheet_with s f kinds) kinds.cells depth cell k m (cell_record_at s at) (item_looked cells s f kinds cell looked told) (ne_eqb _ _ deep) fresh closed ∙ ap (remember (sheet_with s f kinds) kinds.cells depth cell) whole))

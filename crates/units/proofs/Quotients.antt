@@ -15,9 +15,9 @@ module _ (units count : ℕ) where
   share_of_none e = rw (eq-eqb _ _ e)
 
   module _ (some : count ≡ 0 → ⊥) where
-    pub share-below-one : units < count → 1 ≡ source_units units count
+    pub share_below_one : units < count → 1 ≡ source_units units count
     unfolding source_units
-    share-below-one h = rw (ne_eqb _ _ some, div-eq_of_lt h)
+    share_below_one h = rw (ne_eqb _ _ some, div-eq_of_lt h)
 
     pub share : count ≤ units → units / count ≡ source_units units count
     unfolding source_units

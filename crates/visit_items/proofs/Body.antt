@@ -24,21 +24,21 @@ module _ {f : Fixed} (g : Given f) (c : OpenCell) (r : CellRecord) (on : VisitRe
   body = visit_lists g c r on w
 
   module _ (x : Bool) (v : Output) (listed : flow x v ≡ cell_geometries g c r w) where
-    pub geometries-halt : not x ≡ true → visit_references g c r on 0 v ≡ body
-    unfolding visit.cellBody each
-    geometries-halt h = rw (flow_halts x v listed h)
+    pub geometries_halt : not x ≡ true → visit_references g c r on 0 v ≡ body
+    unfolding visit.cell_body each
+    geometries_halt h = rw (flow_halts x v listed h)
 
     module _ (all : not x ≡ false) (x₁ : Bool) (v₁ : Output) (listed₁ : flow x₁ v₁ ≡ cell_texts g c r v) where
-      pub texts-halt : not x₁ ≡ true → visit_references g c r on 0 v₁ ≡ body
-      unfolding visit.cellBody each
-      texts-halt h = rw (flow_goes x v listed all, flow_halts x₁ v₁ listed₁ h)
+      pub texts_halt : not x₁ ≡ true → visit_references g c r on 0 v₁ ≡ body
+      unfolding visit.cell_body each
+      texts_halt h = rw (flow_goes x v listed all, flow_halts x₁ v₁ listed₁ h)
 
       module _ (all₁ : not x₁ ≡ false) (x₂ : Bool) (v₂ : Output) (listed₂ : flow x₂ v₂ ≡ cell_nodes g c r v₁) where
-        pub nodes-halt : not x₂ ≡ true → visit_references g c r on 0 v₂ ≡ body
-        unfolding visit.cellBody each
-        nodes-halt h = rw (flow_goes x v listed all, flow_goes x₁ v₁ listed₁ all₁, flow_halts x₂ v₂ listed₂ h)
+        pub nodes_halt : not x₂ ≡ true → visit_references g c r on 0 v₂ ≡ body
+        unfolding visit.cell_body each
+        nodes_halt h = rw (flow_goes x v listed all, flow_goes x₁ v₁ listed₁ all₁, flow_halts x₂ v₂ listed₂ h)
 
         pub all_listed : not x₂ ≡ false → (count : ℕ) → count ≡ r.references.count → visit_references g c r on count v₂ ≡ body
-        unfolding visit.cellBody
+        unfolding visit.cell_body
         all_listed h count read =
             ap (λ (n : ℕ). visit_references g c r on n v₂) read ∙ (rw (flow_goes x v listed all, flow_goes x₁ v₁ listed₁ all₁, flow_goes x₂ v₂ listed₂ h))

@@ -11,8 +11,8 @@ use Rattle.abstract_sheet.specs.Sheet.{CellRecord}
 use Rattle.plan_rules.specs.declared.Fixed.{Fixed}
 use Rattle.plan_rules.specs.declared.Reason.TheVariants.{OtherLimit}
 use Rattle.plan_rules.specs.World.{detail_budget_exhausted, Flow, go, halt, flow, bind, each}
-use Rattle.plan_rules.specs.OnTape.{Given, query, Output, add_load_if_boxed, halt_with_cell, geometryStep, textStep, nodeStep}
-use Rattle.plan_rules.proofs.Paths.Cells.{geometry-step-exhausted, geometry-step-goes, text-step-exhausted, text-step-goes, node-step-exhausted, node-step-with-room}
+use Rattle.plan_rules.specs.OnTape.{Given, query, Output, add_load_if_boxed, halt_with_cell, geometry_step, text_step, node_step}
+use Rattle.plan_rules.proofs.Paths.Cells.{geometry_step_exhausted, geometry_step_goes, text_step_exhausted, text_step_goes, node_step_exhausted, node_step_with_room}
 use Rattle.visit_items.specs.declared.OpenCell.{OpenCell}
 use Rattle.visit_items.specs.Lists.{Push, opened, push_with_room, push_from}
 use Rattle.visit_items.proofs.NumberLoop.{Kind}
@@ -32,25 +32,25 @@ pub record CellKind : Type 0 where
 abbrev pub geometries : CellKind
 geometries = record {
   kind = loop.geometries;
-  step = λ f g. geometryStep g;
-  step_exhausted = λ f g s c. geometry-step-exhausted g c.number (opened s c) c.transform c.bounds;
-  step_with_room = λ f g s c. geometry-step-goes g c.number (opened s c) c.transform c.bounds;
+  step = λ f g. geometry_step g;
+  step_exhausted = λ f g s c. geometry_step_exhausted g c.number (opened s c) c.transform c.bounds;
+  step_with_room = λ f g s c. geometry_step_goes g c.number (opened s c) c.transform c.bounds;
 }
 
 abbrev pub texts : CellKind
 texts = record {
   kind = loop.texts;
-  step = λ f g. textStep g;
-  step_exhausted = λ f g s c. text-step-exhausted g c.number (opened s c) c.transform c.bounds;
-  step_with_room = λ f g s c. text-step-goes g c.number (opened s c) c.transform c.bounds;
+  step = λ f g. text_step g;
+  step_exhausted = λ f g s c. text_step_exhausted g c.number (opened s c) c.transform c.bounds;
+  step_with_room = λ f g s c. text_step_goes g c.number (opened s c) c.transform c.bounds;
 }
 
 abbrev pub nodes : CellKind
 nodes = record {
   kind = loop.nodes;
-  step = λ f g. nodeStep g;
-  step_exhausted = λ f g s c. node-step-exhausted g c.number (opened s c) c.transform c.bounds;
-  step_with_room = λ f g s c. node-step-with-room g c.number (opened s c) c.transform c.bounds;
+  step = λ f g. node_step g;
+  step_exhausted = λ f g s c. node_step_exhausted g c.number (opened s c) c.transform c.bounds;
+  step_with_room = λ f g s c. node_step_with_room g c.number (opened s c) c.transform c.bounds;
 }
 
 module _ (C : CellKind) {f : Fixed} (g : Given f) (s : List ℕ) (c : OpenCell) where

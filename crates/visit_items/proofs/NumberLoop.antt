@@ -13,7 +13,7 @@ use Rattle.plan_rules.specs.declared.ScenePlan.{ScenePlan}
 use Rattle.plan_rules.specs.declared.Fixed.{Fixed}
 use Rattle.plan_rules.specs.World.{detail_budget_exhausted, world, Flow, go, halt, bind, each}
 use Rattle.plan_rules.specs.OnTape.{Given, given_bytes, fixed_query, Output, push_geometry, push_text, push_node}
-use Rattle.plan_rules.proofs.Paths.Loops.{each-halt}
+use Rattle.plan_rules.proofs.Paths.Loops.{each_halt}
 use Rattle.visit_items.specs.Lists.{Push, push_with_room, push_from}
 
 -- ---- Definitions
@@ -85,11 +85,11 @@ abbrev pub μ : List ℕ → List ℕ → Fixed → List ℕ → List ℕ → �
 -- a list of one number
 pub one : {f : Fixed} (g : Given f) (push : Push) (at : ℕ → ℕ) (number : ℕ) (w : Output) → push_from g push at 0 1 number w ≡ push number w
 unfolding each push_from
-one g push at number w = bind-go (push number w)
+one g push at number w = bind_go (push number w)
   where
-    bind-go : (x : Flow (List ℕ)) → bind x go ≡ x
-    bind-go (go v) = refl
-    bind-go (halt v) = refl
+    bind_go : (x : Flow (List ℕ)) → bind x go ≡ x
+    bind_go (go v) = refl
+    bind_go (halt v) = refl
 
 module _ {K : Kind} {a : Call} where
   pub starts : Left K a a.out a.plan a.first 0
@@ -134,16 +134,16 @@ module _ {K : Kind} {a : Call} where
             }
 
         module _ (more : i + 1 < a.count) {asked : Bool} (budget : (hidden : List ℕ) → asked ≡ detail_budget_exhausted (fixed_query a.fixed hidden) plan₁) where
-          exhausted-turn : asked ≡ true → (k m : List ℕ) → turn K a (i + 1) (world plan₁ out₁ k m) ≡ halt (world plan₁ out₁ k m)
+          exhausted_turn : asked ≡ true → (k m : List ℕ) → turn K a (i + 1) (world plan₁ out₁ k m) ≡ halt (world plan₁ out₁ k m)
           unfolding push_with_room
-          exhausted-turn full k m = rw (sym (budget a.hidden) ∙ full)
+          exhausted_turn full k m = rw (sym (budget a.hidden) ∙ full)
 
           pub exhausted : asked ≡ true → (k m : List ℕ) → halt (world plan₁ out₁ k m) ≡ whole K a k m
-          exhausted full k m = sym (each-halt _ _ (i + 1) _ _ more (exhausted-turn full k m)) ∙ turned k m (e k m)
+          exhausted full k m = sym (each_halt _ _ (i + 1) _ _ more (exhausted_turn full k m)) ∙ turned k m (e k m)
 
-          turn-with-room : asked ≡ false → (k m : List ℕ) → turn K a (i + 1) (world plan₁ out₁ k m) ≡ pushed K a (listed K a (i + 1)) (world plan₁ out₁ k m)
+          turn_with_room : asked ≡ false → (k m : List ℕ) → turn K a (i + 1) (world plan₁ out₁ k m) ≡ pushed K a (listed K a (i + 1)) (world plan₁ out₁ k m)
           unfolding push_with_room
-          turn-with-room room k m = rw (sym (budget a.hidden) ∙ room)
+          turn_with_room room k m = rw (sym (budget a.hidden) ∙ room)
 
           pub goes : length out₁ ≡ length out → asked ≡ false → {number₁ : ℕ} → number₁ ≡ listed K a (i + 1) → Left K a out₁ plan₁ number₁ (i + 1)
           unfolding each push_from
@@ -155,7 +155,7 @@ module _ {K : Kind} {a : Call} where
                 left = λ k m.
                     ap (λ (n : ℕ). from K a (i + 1) n number₁ (world plan₁ out₁ k m)) z
                     ∙ ap (λ (y : Flow (List ℕ)). bind y (each (turn K a) (a.count - (i + 1 + 1)) (i + 1 + 1)))
-                    (ap (λ (n : ℕ). pushed K a n (world plan₁ out₁ k m)) read ∙ sym (turn-with-room room k m))
+                    (ap (λ (n : ℕ). pushed K a n (world plan₁ out₁ k m)) read ∙ sym (turn_with_room room k m))
                     ∙ sym (ap (λ (n : ℕ). each (turn K a) n (i + 1) (world plan₁ out₁ k m)) z)
                     ∙ turned k m (e k m);
               }

@@ -5,7 +5,7 @@
 ghost use Rattle.records.specs.Records.{cell_geometry_at, cell_text_at, cell_node_at};
 ghost use Rattle.plan_rules.specs.declared.Reason.TheVariants.{OtherLimit};
 ghost use Rattle.plan_rules.specs.OnTape.{given, Leaves, LeavesFlow, add_load_if_boxed};
-ghost use Rattle.visit_items.specs.Lists.{pushGeometries, pushTexts, pushNodes};
+ghost use Rattle.visit_items.specs.Lists.{push_geometries, push_texts, push_nodes};
 
 use crate::OpenCell;
 use events::add_load_if_boxed;
@@ -34,7 +34,7 @@ pub fn push_geometries(
     count: u32,
     transform: Placement,
 ) -> Visited
-    ensures { LeavesFlow result.whole result.plan out.exit (pushGeometries (given fixed sheet.entry finder.entry hidden.entry) (cell_geometry_at sheet.now at) transform count first) plan out.entry }
+    ensures { LeavesFlow result.whole result.plan out.exit (push_geometries (given fixed sheet.entry finder.entry hidden.entry) (cell_geometry_at sheet.now at) transform count first) plan out.entry }
 {
     let mut next = plan;
     let mut number = first;
@@ -70,7 +70,7 @@ pub fn push_texts(
     count: u32,
     transform: Placement,
 ) -> Visited
-    ensures { LeavesFlow result.whole result.plan out.exit (pushTexts (given fixed sheet.entry finder.entry hidden.entry) (cell_text_at sheet.now at) transform count first) plan out.entry }
+    ensures { LeavesFlow result.whole result.plan out.exit (push_texts (given fixed sheet.entry finder.entry hidden.entry) (cell_text_at sheet.now at) transform count first) plan out.entry }
 {
     let mut next = plan;
     let mut number = first;
@@ -106,7 +106,7 @@ pub fn push_nodes(
     count: u32,
     transform: Placement,
 ) -> Visited
-    ensures { LeavesFlow result.whole result.plan out.exit (pushNodes (given fixed sheet.entry finder.entry hidden.entry) (cell_node_at sheet.now at) transform count first) plan out.entry }
+    ensures { LeavesFlow result.whole result.plan out.exit (push_nodes (given fixed sheet.entry finder.entry hidden.entry) (cell_node_at sheet.now at) transform count first) plan out.entry }
 {
     let mut next = plan;
     let mut number = first;

@@ -29,7 +29,7 @@ use Rattle.plan_rules.specs.World.{world, Flow, go, halt, flow, ending, each}
 use Rattle.plan_rules.specs.DrawUnits.{Units, counted}
 use Rattle.plan_rules.specs.Visit as rules
 use Rattle.plan_rules.specs.Visit.{collapse_reason, source_units}
-use Rattle.plan_rules.specs.OnTape.{Given, given_bytes, Output, add_load, load_member, halt_with_member, memberStep, columnStep, visitCountedReference, visitSourcedReference, visit_found_reference, on_source, on_source_below, visit_reference}
+use Rattle.plan_rules.specs.OnTape.{Given, given_bytes, Output, add_load, load_member, halt_with_member, member_step, column_step, visit_counted_reference, visit_sourced_reference, visit_found_reference, on_source, on_source_below, visit_reference}
 use Rattle.plan_rules.proofs.Paths.References as Paths
 use Rattle.visits.proofs.Members.{member_at, members_in_one_loop}
 
@@ -52,11 +52,11 @@ module _ (opens whole : Bool) (l : ℕ) (box world_box : WorldBBox) (w : Output)
   member_halted h g = sym (rw (h, g) at tried)
 
   module _ (opened : opens ≡ true) (source-whole : Bool) (u : Output) (done : flow source-whole u ≡ visited) where
-    pub source-passed : source-whole ≡ true → (v : Output) → v ≡ u → turn ≡ go v
-    source-passed g v e = sym (rw (opened, ← done, g) at tried) ∙ ap go (sym e)
+    pub source_passed : source-whole ≡ true → (v : Output) → v ≡ u → turn ≡ go v
+    source_passed g v e = sym (rw (opened, ← done, g) at tried) ∙ ap go (sym e)
 
-    pub source-halted : source-whole ≡ false → (n : ℕ) → n ≡ l → (v : Output) → v ≡ load_member n box world_box u → turn ≡ halt v
-    source-halted g n e v boxed =
+    pub source_halted : source-whole ≡ false → (n : ℕ) → n ≡ l → (v : Output) → v ≡ load_member n box world_box u → turn ≡ halt v
+    source_halted g n e v boxed =
         sym (rw (opened, ← done, g) at tried)
         ∙ ap halt (ap (λ (n : ℕ). load_member n box world_box u) (sym e) ∙ sym boxed)
 
@@ -67,13 +67,13 @@ module _ (s finder : List ℕ) (f : Fixed) (hidden : List ℕ) (depth number : �
   g = given_bytes f s finder hidden
 
   pub missing : {found : Found} → found ≡ look s finder f.counts 4 number → found ≡ Nothing → w ≡ visit_reference g depth number transform w
-  missing looked told = sym (Paths.reference-missing g depth number transform w (item_looked references s finder f.counts number looked told))
+  missing looked told = sym (Paths.reference_missing g depth number transform w (item_looked references s finder f.counts number looked told))
 
   pub found : {result : Found} → result ≡ look s finder f.counts 4 number → (at : ℕ) → result ≡ At at → (r : PreparedReference) → r ≡ reference_at s at
-      → visitSourcedReference g (on_source_below g depth) depth r transform r.source_bbox w ≡ visit_reference g depth number transform w
+      → visit_sourced_reference g (on_source_below g depth) depth r transform r.source_bbox w ≡ visit_reference g depth number transform w
   unfolding rules.visit_found_reference
   found looked at told r read =
-      sym (Paths.reference-is g depth number transform w ∙ ap (λ (o : Option PreparedReference). visit_found_reference g (on_source_below g depth) depth transform o w)
+      sym (Paths.reference_is g depth number transform w ∙ ap (λ (o : Option PreparedReference). visit_found_reference g (on_source_below g depth) depth transform o w)
       (item_looked references s finder f.counts number looked told ∙ ap some (sym read)))
 
 -- ---- the draw units counted
@@ -96,37 +96,37 @@ module _ {f : Fixed} (g : Given f) (depth : ℕ) where
   module _ (r : PreparedReference) (transform : Placement) (sourceBox world_box : WorldBBox) where
     -- member i; `share` is one member's part of the draw units
     abbrev pub turn : ℕ → ℕ → Output → Flow (List ℕ)
-    turn share = member_at (memberStep g (on_source g (depth - 1)) depth r transform sourceBox world_box share) r.grid.rows
+    turn share = member_at (member_step g (on_source g (depth - 1)) depth r transform sourceBox world_box share) r.grid.rows
 
-    member-by-member : (share : ℕ) (w : Output)
-        → each (columnStep g (on_source g (depth - 1)) depth r transform sourceBox world_box share) r.grid.columns 0 w ≡ each (turn share) (grid_count r.grid) 0 w
-    unfolding rules.columnStep grid_count
-    member-by-member share w =
-        members_in_one_loop (memberStep g (on_source g (depth - 1)) depth r transform sourceBox world_box share) r.grid.rows r.grid.columns w
+    member_by_member : (share : ℕ) (w : Output)
+        → each (column_step g (on_source g (depth - 1)) depth r transform sourceBox world_box share) r.grid.columns 0 w ≡ each (turn share) (grid_count r.grid) 0 w
+    unfolding rules.column_step grid_count
+    member_by_member share w =
+        members_in_one_loop (member_step g (on_source g (depth - 1)) depth r transform sourceBox world_box share) r.grid.rows r.grid.columns w
 
     module _ (w : Output) (u : Units) (units count : ℕ) (k m : List ℕ) (units-are : counted units k m ≡ u) (grid : count ≡ grid_count r.grid)
         (test : CollapseTest) (tested : test ≡ collapse_test (reference_screen_size world_box f.options.zoom (source_is_degenerate sourceBox)).width (reference_screen_size world_box f.options.zoom (source_is_degenerate sourceBox)).height count units depth false)
         (boxes : Bool) (asked : boxes ≡ collapses test)
       where
-        counted_is : visitCountedReference g (on_source_below g depth) depth r transform sourceBox world_box (counted units k m) w ≡ visitCountedReference g (on_source_below g depth) depth r transform sourceBox world_box u w
-        counted_is = ap (λ (u : Units). visitCountedReference g (on_source_below g depth) depth r transform sourceBox world_box u w) units-are
+        counted_is : visit_counted_reference g (on_source_below g depth) depth r transform sourceBox world_box (counted units k m) w ≡ visit_counted_reference g (on_source_below g depth) depth r transform sourceBox world_box u w
+        counted_is = ap (λ (u : Units). visit_counted_reference g (on_source_below g depth) depth r transform sourceBox world_box u w) units-are
 
         pub collapsed : boxes ≡ true → (y : Reason) → y ≡ collapse_reason test → (l : ℕ) → l ≡ label r.source
             → (v : Output) → v ≡ add_load y l world_box (world w.state w.out k m)
-            → v ≡ visitCountedReference g (on_source_below g depth) depth r transform sourceBox world_box u w
-        unfolding rules.visitCountedReference
+            → v ≡ visit_counted_reference g (on_source_below g depth) depth r transform sourceBox world_box u w
+        unfolding rules.visit_counted_reference
         collapsed h y why l e v boxed =
-            let rules : visitCountedReference g (on_source_below g depth) depth r transform sourceBox world_box (counted units k m) w ≡ add_load (collapse_reason test) (label r.source) world_box (world w.state w.out k m) = rw (← grid, ← tested, ← asked, h) in
+            let rules : visit_counted_reference g (on_source_below g depth) depth r transform sourceBox world_box (counted units k m) w ≡ add_load (collapse_reason test) (label r.source) world_box (world w.state w.out k m) = rw (← grid, ← tested, ← asked, h) in
             boxed
             ∙ ap (λ (y : Reason). add_load y l world_box (world w.state w.out k m)) why
             ∙ ap (λ (l : ℕ). add_load (collapse_reason test) l world_box (world w.state w.out k m)) e
             ∙ sym rules ∙ counted_is
 
         pub expanded : boxes ≡ false → (share : ℕ) → share ≡ source_units units count
-            → ending (each (turn share) count 0 (world w.state w.out k m)) ≡ visitCountedReference g (on_source_below g depth) depth r transform sourceBox world_box u w
-        unfolding rules.visitCountedReference
+            → ending (each (turn share) count 0 (world w.state w.out k m)) ≡ visit_counted_reference g (on_source_below g depth) depth r transform sourceBox world_box u w
+        unfolding rules.visit_counted_reference
         expanded h share e =
             let deep : 1 < depth = expands_deep sourceBox world_box count units (sym (ap collapses tested) ∙ sym asked ∙ h) in
-            let rules : visitCountedReference g (on_source_below g depth) depth r transform sourceBox world_box (counted units k m) w ≡ ending (each (turn share) count 0 (world w.state w.out k m)) =
-            rw (← grid, ← tested, ← asked, h, ← e, Paths.one_below g depth (omega arith), member-by-member share (world w.state w.out k m), ← grid) in
+            let rules : visit_counted_reference g (on_source_below g depth) depth r transform sourceBox world_box (counted units k m) w ≡ ending (each (turn share) count 0 (world w.state w.out k m)) =
+            rw (← grid, ← tested, ← asked, h, ← e, Paths.one_below g depth (omega arith), member_by_member share (world w.state w.out k m), ← grid) in
             sym rules ∙ counted_is

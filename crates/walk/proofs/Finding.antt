@@ -56,14 +56,14 @@ module _ (s : List ℕ) (kind n at : ℕ) (within : at < length s) where
 
   -- the record at hand is passed over, and m are left to pass before the one
   module _ (m : ℕ) (passed : (xs : List ℕ) → find_in s kind n (at ∷ xs) ≡ find_in s kind m xs) where
-    pub find-on : 6 ≤ length_at s at → find_from s kind n at ≡ find_from s kind m (at + length_at s at)
-    find-on h = rw (offsets_more s at within h) (passed (offsets_from s (at + length_at s at)))
+    pub find_on : 6 ≤ length_at s at → find_from s kind n at ≡ find_from s kind m (at + length_at s at)
+    find_on h = rw (offsets_more s at within h) (passed (offsets_from s (at + length_at s at)))
 
-    pub find-stop : length_at s at < 6 → find_from s kind n at ≡ Nothing
-    find-stop h = rw (offsets_bad s at within h) (passed [] ∙ find_nil s kind m)
+    pub find_stop : length_at s at < 6 → find_from s kind n at ≡ Nothing
+    find_stop h = rw (offsets_bad s at within h) (passed [] ∙ find_nil s kind m)
 
     pub find_past : 6 ≤ length_at s at → length s ≤ at + length_at s at → find_from s kind n at ≡ Nothing
-    find_past h past = find-on h ∙ find_end s kind m (at + length_at s at) past
+    find_past h past = find_on h ∙ find_end s kind m (at + length_at s at) past
 
 answer_at : (o : Option ℕ) (at : ℕ) → answer o ≡ At at → o ≡ some at
 unfolding answer

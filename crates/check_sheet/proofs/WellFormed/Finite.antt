@@ -15,7 +15,7 @@ use Rattle.records.specs.declared.PreparedText.{PreparedText}
 use Rattle.records.specs.declared.PreparedReference.{PreparedReference}
 use Rattle.records.specs.Records.{dvec2_at, world_bbox_at, bounds_at, geometry_at, text_at, node_at, node_point_at, grid_at, reference_at, cell_at}
 use Rattle.abstract_sheet.specs.Sheet.{NodeRecord, CellRecord, sheet_of, node_record_at, cell_record_at, geometries, texts, nodes, references, cells}
-use Rattle.abstract_sheet.proofs.Lookup.{item-located}
+use Rattle.abstract_sheet.proofs.Lookup.{item_located}
 use Rattle.check_record.specs.Floats.{floats_from, floats_count}
 use Rattle.check_record.proofs.Facts.Finite.{float_finite}
 use Rattle.check_sheet.specs.Valid.{Valid}
@@ -56,26 +56,26 @@ module _ (s : List ℕ) (valid : Valid s) (n : ℕ) where
   pub geometry_finite : (g : PreparedGeometry) → (sheet_of s).geometry n ≡ some g → FiniteBBox g.bbox
   unfolding geometry_at floats_from floats_count
   geometry_finite g e =
-      let l = item-located geometries s n g e in
+      let l = item_located geometries s n g e in
       subst (λ (x : PreparedGeometry). FiniteBBox x.bbox) (sym l.same) (bbox_at s valid 1 n l.at l.found 0 _ (omega arith) (omega arith))
 
   pub text_finite : (x : PreparedText) → (sheet_of s).text n ≡ some x → FinitePoint x.origin
   unfolding text_at floats_from floats_count
   text_finite x e =
-      let l = item-located texts s n x e in
+      let l = item_located texts s n x e in
       subst (λ (y : PreparedText). FinitePoint y.origin) (sym l.same) (point_at s valid 2 n l.at l.found 0 _ (omega arith) (omega arith))
 
   pub node_finite : (d : NodeRecord) → (sheet_of s).node n ≡ some d → (i : ℕ) → i < d.count → FinitePoint (d.point i)
   unfolding node_record_at node_at node_point_at floats_from floats_count
   node_finite d e =
-      let l = item-located nodes s n d e in
+      let l = item_located nodes s n d e in
       subst (λ (y : NodeRecord). (i : ℕ) → i < y.count → FinitePoint (y.point i)) (sym l.same)
       (λ i h. point_at s valid 3 n l.at l.found (2 * i) _ (omega arith) (omega arith))
 
   pub grid_finite : (r : PreparedReference) → (sheet_of s).reference n ≡ some r → FiniteGrid r.grid
   unfolding reference_at grid_at floats_from floats_count
   grid_finite r e =
-      let l = item-located references s n r e in
+      let l = item_located references s n r e in
       let point = point_at s valid 4 n l.at l.found in
       let float = float_at s valid 4 n l.at l.found in
       subst (λ (y : PreparedReference). FiniteGrid y.grid) (sym l.same)
@@ -91,12 +91,12 @@ module _ (s : List ℕ) (valid : Valid s) (n : ℕ) where
   pub source_box_finite : (r : PreparedReference) → (sheet_of s).reference n ≡ some r → FiniteBounds r.source_bbox
   unfolding reference_at floats_from floats_count
   source_box_finite r e =
-      let l = item-located references s n r e in
+      let l = item_located references s n r e in
       subst (λ (y : PreparedReference). FiniteBounds y.source_bbox) (sym l.same)
       (bounds_at_lem s valid 4 n l.at l.found 9 _ (omega arith) (omega arith) _)
 
   pub cell_box_finite : (c : CellRecord) → (sheet_of s).cell n ≡ some c → FiniteBounds c.bbox
   unfolding cell_record_at cell_at floats_from floats_count
   cell_box_finite c e =
-      let l = item-located cells s n c e in
+      let l = item_located cells s n c e in
       subst (λ (y : CellRecord). FiniteBounds y.bbox) (sym l.same) (bounds_at_lem s valid 5 n l.at l.found 0 _ (omega arith) (omega arith) _)

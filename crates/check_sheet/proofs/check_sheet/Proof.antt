@@ -13,7 +13,7 @@ use Rattle.check_sheet.specs.declared.Checked.TheVariants.{Sound}
 use Rattle.check_sheet.specs.Count.{counts_of}
 use Rattle.check_sheet.specs.Check.{first_no, first_unnamed, verdict}
 use Rattle.check_sheet.proofs.Passes.{sound_all_right}
-use Rattle.check_sheet.proofs.Answers.{too_long, record-refused, too-many-cells, then-links}
+use Rattle.check_sheet.proofs.Answers.{too_long, record_refused, too_many_cells, then_links}
 use borrow.Author.Rules.{rules}
 use Rattle.check_sheet.proofs.check_sheet.Statement.{statement}
 use Rattle.check_sheet.proofs.check_sheet.Tie as tie
@@ -33,7 +33,7 @@ returns c = ap verdict (sym (too_long _ c.if1.true))
 returns_2 : tie.Need-returns-2
 returns_2 c =
     let known = counted c.before.before.before.before.before.before.before.before.args.s.now _ (sym c.before.before.before.before.before.scan.ensures ∙ c.before.before.before.counts.given.1) in
-    ap verdict (sym (too-many-cells _ (omega arith) known.0 (omega arith)))
+    ap verdict (sym (too_many_cells _ (omega arith) known.0 (omega arith)))
 
 links_requires : tie.Need-links-requires
 links_requires c κs =
@@ -41,7 +41,7 @@ links_requires c κs =
     (omega arith, (known.0, known.1))
 
 returns_3 : tie.Need-returns-3
-returns_3 c = ap verdict (sym (record-refused _ (omega arith) _ _ _ (sym c.before.before.before.scan.ensures ∙ c.before.number.given.1)))
+returns_3 c = ap verdict (sym (record_refused _ (omega arith) _ _ _ (sym c.before.before.before.scan.ensures ∙ c.before.number.given.1)))
 
 returns_4 : tie.Need-returns-4
 returns_4 c =
@@ -49,7 +49,7 @@ returns_4 c =
     let known = counted s _ (sym c.before.before.before.before.before.before.scan.ensures ∙ c.before.before.before.before.counts.given.1) in
     ap verdict (c.links.ensures
     ∙ ap (λ (x : Counts). first_unnamed s x 0 (offsets s) (Sound x)) known.1
-    ∙ sym (then-links s (omega arith) known.0 (omega arith)))
+    ∙ sym (then_links s (omega arith) known.0 (omega arith)))
 
 pub check_sheet_spec : {M : Type 1} → statement M
 check_sheet_spec =

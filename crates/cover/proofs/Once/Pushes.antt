@@ -21,7 +21,7 @@ use Rattle.plan_rules.specs.Limits.{max_load_proxies}
 use Rattle.plan_rules.specs.declared.Reason.{Reason}
 use Rattle.plan_rules.specs.Event.{batch, text, point, proxy, dropped_proxy, skipped_batch, culled_batch, Step, point_at}
 use Rattle.plan_rules.specs.World.{Query, hides, detail_budget_exhausted, World, Flow, ending}
-use Rattle.plan_rules.specs.Push.{say, add_load, add_load_if_boxed, pushFoundGeometry, pushFoundText, push_point, pushFoundNode}
+use Rattle.plan_rules.specs.Push.{say, add_load, add_load_if_boxed, push_found_geometry, push_found_text, push_point, push_found_node}
 use Rattle.plan_rules.specs.Tape.{note}
 use Rattle.cover.specs.Trace.{enter}
 use Rattle.cover.proofs.Tests.{cond_case}
@@ -39,8 +39,8 @@ load_if_boxed_adds K t y l Absent w = adds_nothing K w.out
 load_if_boxed_adds K t y l (Box x₀ y₀ x₁ y₁) w = load_adds K t y l (bbox x₀ y₀ x₁ y₁) w
 
 module _ (S : Sheet) (q : Query) where
-  pub geometry_adds : (t : List Step) (n : ℕ) (p : Placement) (o : Option PreparedGeometry) → AddsWorld (Under t) (pushFoundGeometry enter note S q t n p o)
-  unfolding pushFoundGeometry say
+  pub geometry_adds : (t : List Step) (n : ℕ) (p : Placement) (o : Option PreparedGeometry) → AddsWorld (Under t) (push_found_geometry enter note S q t n p o)
+  unfolding push_found_geometry say
   geometry_adds t n p none w = adds_nothing (Under t) w.out
   geometry_adds t n p (some b) w =
       let box = transform_bbox p b.bbox in
@@ -53,8 +53,8 @@ module _ (S : Sheet) (q : Query) where
       (λ _. cond_case A (detail_budget_exhausted q w.state) _ _ (λ _. load_adds (Under t) t _ no_label box w)
       (λ _. adds_record (Under t) w.out t (batch n p) (under_self t))))))
 
-  pub text_adds : (t : List Step) (n : ℕ) (p : Placement) (o : Option PreparedText) → AddsWorld (Under t) (pushFoundText enter note S q t n p o)
-  unfolding pushFoundText say
+  pub text_adds : (t : List Step) (n : ℕ) (p : Placement) (o : Option PreparedText) → AddsWorld (Under t) (push_found_text enter note S q t n p o)
+  unfolding push_found_text say
   text_adds t n p none w = adds_nothing (Under t) w.out
   text_adds t n p (some x) w =
       let v = transform_point2 p x.origin in
@@ -72,8 +72,8 @@ module _ (S : Sheet) (q : Query) where
       (λ _. cond_case A (detail_budget_exhausted q w.state) _ _ (λ _. adds_nothing K w.out)
       (λ _. adds_record K w.out (point_at j ∷ t) (point x.layer x.node_type v) (under_self (point_at j ∷ t))))
 
-  pub node_adds : (t : List Step) (p : Placement) (o : Option NodeRecord) → AddsFlow (Under t) (pushFoundNode enter note S q t p o)
-  unfolding pushFoundNode
+  pub node_adds : (t : List Step) (p : Placement) (o : Option NodeRecord) → AddsFlow (Under t) (push_found_node enter note S q t p o)
+  unfolding push_found_node
   node_adds t p none w = adds_nothing (Under t) w.out
   node_adds t p (some x) w =
       cond_case (λ (f : Flow Tagged). Adds (Under t) w.out (ending f).out) (hides q x.layer x.node_type) _ _ (λ _. adds_nothing (Under t) w.out)

@@ -9,7 +9,7 @@ use Rattle.geometry.specs.Bbox.{transform_bounds, is_outside}
 use Rattle.plan_rules.specs.Event.{detail_cell}
 use Rattle.plan_rules.specs.World.{world}
 use Rattle.plan_rules.specs.OnTape.{say}
-use Rattle.enter_cell.proofs.FoundCell.{cell_outside, cell-detail-full, cell-exhausted, cell-open, cell-entered}
+use Rattle.enter_cell.proofs.FoundCell.{cell_outside, cell_detail_full, cell_exhausted, cell_open, cell_entered}
 use Rattle.events.proofs.Over.{is_over}
 use borrow.Author.Rules.{rules}
 use Rattle.enter_cell.proofs.enter_cell.Statement.{statement}
@@ -43,7 +43,7 @@ full c =
     let b = else1.before.before in
     λ g on d k e.
     is_over _ _ _ _ _ k _ c.over2.ensures
-    ∙ cell-detail-full g on _ _ d _ _ (placed b _ e) (inside else1) (sym asked.detail-cells-full.ensures ∙ added.before.before.if2.true) _ (added.add-load-if-boxed.ensures k _)
+    ∙ cell_detail_full g on _ _ d _ _ (placed b _ e) (inside else1) (sym asked.detail-cells-full.ensures ∙ added.before.before.if2.true) _ (added.add-load-if-boxed.ensures k _)
 
 exhausted : tie.Need-returns-3
 exhausted c =
@@ -54,7 +54,7 @@ exhausted c =
     let b = else1.before.before in
     λ g on d k e.
     is_over _ _ _ _ _ k _ c.over3.ensures
-    ∙ cell-exhausted g on _ _ d _ _ (placed b _ e) (inside else1) (sym else2.before.detail-cells-full.ensures ∙ else2.if2.false)
+    ∙ cell_exhausted g on _ _ d _ _ (placed b _ e) (inside else1) (sym else2.before.detail-cells-full.ensures ∙ else2.if2.false)
     (sym (asked.detail-budget-exhausted.ensures g.hidden) ∙ added.before.before.if3.true) _ (added.add-load-if-boxed2.ensures k _)
 
 met_again : tie.Need-returns-4
@@ -67,7 +67,7 @@ met_again c =
     let b = else1.before.before in
     λ g on d k e.
     is_over _ _ _ _ _ k _ c.over4.ensures
-    ∙ cell-open g on _ _ d _ _ (placed b _ e) (inside else1) (sym else2.before.detail-cells-full.ensures ∙ else2.if2.false)
+    ∙ cell_open g on _ _ d _ _ (placed b _ e) (inside else1) (sym else2.before.detail-cells-full.ensures ∙ else2.if2.false)
     (sym (else3.before.detail-budget-exhausted.ensures g.hidden) ∙ else3.if3.false)
     (sym asked.stack-contains.ensures ∙ added.before.before.if4.true) _ (added.add-load-if-boxed3.ensures k _)
 
@@ -82,7 +82,7 @@ entered c =
     let b = else1.before.before in
     let a = (start b).args in
     λ g on d k e.
-    cell-entered g on _ _ d _ _ (placed b _ e) (inside else1)
+    cell_entered g on _ _ d _ _ (placed b _ e) (inside else1)
     (sym else2.before.detail-cells-full.ensures ∙ else2.if2.false)
     (sym (else3.before.detail-budget-exhausted.ensures g.hidden) ∙ else3.if3.false)
     (sym asked.stack-contains.ensures ∙ else4.if4.false) _

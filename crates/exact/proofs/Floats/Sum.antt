@@ -32,14 +32,14 @@ sum_is_round f false a true b c = by (ltb a b) (ltb→lt a b) (nltb→le a b)
     by false g h = let k = h tt in (false, a - b, refl, omega arith)
 sum_is_round f true a false b c = by (ltb a b) (ltb→lt a b) (nltb→le a b)
   where
-    zero-or-less : (z : Bool) → (T (not z) → a ≤ b) → b ≤ a → negate (integer a) ⊕ integer b ≐ negate_if z (integer (a - b))
-    zero-or-less true g l = omega arith
-    zero-or-less false g l = let k = g tt in omega arith
+    zero_or_less : (z : Bool) → (T (not z) → a ≤ b) → b ≤ a → negate (integer a) ⊕ integer b ≐ negate_if z (integer (a - b))
+    zero_or_less true g l = omega arith
+    zero_or_less false g l = let k = g tt in omega arith
 
     by : (l : Bool) → (T l → a < b) → (T (not l) → b ≤ a)
         → (z : Bool) × (d : ℕ) × (cond l (round f false (b - a) c) (round f (ltb b a) (a - b) c) ≡ round f z d c) × (negate (integer a) ⊕ integer b ≐ negate_if z (integer d))
     by true g h = let k = g tt in (false, b - a, refl, omega arith)
-    by false g h = (ltb b a, a - b, refl, zero-or-less (ltb b a) (nltb→le b a) (h tt))
+    by false g h = (ltb b a, a - b, refl, zero_or_less (ltb b a) (nltb→le b a) (h tt))
 
 -- a quotient as an equation of integers
 pub quotient_value : (s : Bool) (a c : ℕ) (i : Integer) → IsQuotient s a c i → negate_if s (integer a) ≐ i ⊗ integer c

@@ -43,13 +43,13 @@ manual_exact g column row v =
 
 -- the member at column 0 and row 0 is not moved by the spacings
 manual_first : (g : IntegerGrid) → (single_member g 0 0).origin ≐ᵛ g.origin
-manual_first g = first-origin g.angle g
+manual_first g = first_origin g.angle g
   where
-    first-origin : (a : Rotation) (g : IntegerGrid) → g.origin ⊹ rotate a (member_offset g 0 0) ≐ᵛ g.origin
-    first-origin degrees0 g = record { x = omega arith; y = omega arith }
-    first-origin degrees90 g = record { x = omega arith; y = omega arith }
-    first-origin degrees180 g = record { x = omega arith; y = omega arith }
-    first-origin degrees270 g = record { x = omega arith; y = omega arith }
+    first_origin : (a : Rotation) (g : IntegerGrid) → g.origin ⊹ rotate a (member_offset g 0 0) ≐ᵛ g.origin
+    first_origin degrees0 g = record { x = omega arith; y = omega arith }
+    first_origin degrees90 g = record { x = omega arith; y = omega arith }
+    first_origin degrees180 g = record { x = omega arith; y = omega arith }
+    first_origin degrees270 g = record { x = omega arith; y = omega arith }
 
 manual_rounded : (g : Grid) (z : IntegerGrid) (column row : ℕ) (p : DVec2) (v : Vector) → IsGrid g z → column < g.columns → row < g.rows
     → IsVector p v → VectorWithin (2 ^ 31) v

@@ -21,22 +21,22 @@ AtMostPower k (fin false m e) = m * up e ≤ 2 ^ k * down e
 -- the formats hold the powers of two
 power_value : (f : Format) (k : ℕ) → k ≤ emax f → HasValue (round f false (2 ^ k) 1) false (2 ^ k) 1
 power_value f k h =
-    round_exact f false (2 ^ k) 1 1 (k + low f) (zero-lt-suc 0) (one-lt f)
+    round_exact f false (2 ^ k) 1 1 (k + low f) (zero-lt-suc 0) (one_lt f)
     (subst (λ (x : ℕ). x < 2 ^ (low f + suc (emax f))) (sym (one-mul (2 ^ (k + low f)))) (pow-lt (omega arith)))
     (sym (pow-add 2 k (low f)) ∙ sym (one-mul (2 ^ (k + low f))) ∙ sym (mul-one (1 * 2 ^ (k + low f))))
   where
-    one-lt : (f : Format) → 1 < 2 ^ prec f
-    one-lt binary32 = lit< tt
-    one-lt binary64 = lit< tt
+    one_lt : (f : Format) → 1 < 2 ^ prec f
+    one_lt binary32 = lit< tt
+    one_lt binary64 = lit< tt
 
 -- what `le` tests of two positive fractions
 pub le_of_tests : (a b : ℕ) → T (ltb a b || (eqb a b && true)) → a ≤ b
-le_of_tests a b t = by-case (ltb a b) (eqb a b) (ltb→lt a b) (eqb→eq a b) t
+le_of_tests a b t = by_case (ltb a b) (eqb a b) (ltb→lt a b) (eqb→eq a b) t
   where
-    by-case : (x y : Bool) → (T x → a < b) → (T y → a ≡ b) → T (x || (y && true)) → a ≤ b
-    by-case true y f g t = let h = f tt in omega arith
-    by-case false true f g t = let h = g tt in omega arith
-    by-case false false f g t = absurd t
+    by_case : (x y : Bool) → (T x → a < b) → (T y → a ≡ b) → T (x || (y && true)) → a ≤ b
+    by_case true y f g t = let h = f tt in omega arith
+    by_case false true f g t = let h = g tt in omega arith
+    by_case false false f g t = absurd t
 
 -- x is at most y, which is 2 ^ k
 at_most_value : (k : ℕ) (x y : Float) (a c : ℕ) → HasValue x false a c → HasValue y false (2 ^ k) 1 → T (le x y) → AtMostPower k x
@@ -57,18 +57,18 @@ at_most_value k (fin false m e) (fin false n d) a c p q h =
 units_at_most : (f : Format) (q j k : ℕ) (y : Float) → HasValue y false (2 ^ k) 1 → T (le (units f false q j) y)
     → AtMostPower k (units f false q j)
 unfolding units
-units_at_most f q j k y v = by-case (ltb (q * 2 ^ j) (2 ^ (low f + suc (emax f))))
+units_at_most f q j k y v = by_case (ltb (q * 2 ^ j) (2 ^ (low f + suc (emax f))))
   where
-    no-infinity : (y : Float) → HasValue y false (2 ^ k) 1 → T (le (inf false) y) → ⊥
-    no-infinity nan v t = v
-    no-infinity (inf s) v t = v
-    no-infinity (fin s m e) v t = unfold le in t
+    no_infinity : (y : Float) → HasValue y false (2 ^ k) 1 → T (le (inf false) y) → ⊥
+    no_infinity nan v t = v
+    no_infinity (inf s) v t = v
+    no_infinity (fin s m e) v t = unfold le in t
 
-    by-case : (b : Bool) → T (le (cond b (odd (suc (prec f)) false q j (low f)) (inf false)) y)
+    by_case : (b : Bool) → T (le (cond b (odd (suc (prec f)) false q j (low f)) (inf false)) y)
         → AtMostPower k (cond b (odd (suc (prec f)) false q j (low f)) (inf false))
-    by-case true t =
+    by_case true t =
         at_most_value k (odd (suc (prec f)) false q j (low f)) y (q * 2 ^ j) (2 ^ low f) (odd_sign (suc (prec f)) false q j (low f)) v t
-    by-case false t = absurd (no-infinity y v t)
+    by_case false t = absurd (no_infinity y v t)
 
 pub round_at_most : (f : Format) (k a c : ℕ) → k ≤ emax f → 0 < c → a ≤ 2 ^ k * c → AtMostPower k (round f false a c)
 round_at_most f k a c h c> l =

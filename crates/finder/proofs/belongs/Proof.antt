@@ -13,7 +13,7 @@ use Rattle.check_record.specs.Record.{Right}
 use Rattle.check_sheet.proofs.Valid.{valid_from_start}
 use Rattle.finder.specs.Finder.{starts_of}
 use Rattle.finder.proofs.Running.{AtHand, at_hand}
-use Rattle.finder.proofs.Agreeing.{Agrees, agrees_start, agrees-next, missing-place, other_offset, agrees_end}
+use Rattle.finder.proofs.Agreeing.{Agrees, agrees_start, agrees_next, missing_place, other_offset, agrees_end}
 use Rattle.finder.proofs.belongs.Statement.{statement}
 use Rattle.finder.proofs.belongs.Tie as tie
 
@@ -62,7 +62,7 @@ array_read_place c = omega (arith, (hand c.before).known, c.kind-within.ensures)
 returns : tie.Need-returns invariant_loop decreases_loop
 returns c =
     let i = c.before.before in
-    sym (missing-place (sheet i) (finder i) _ (at i) _ (hand i).known (agreed i) (rw c.before.kind-within.ensures at c.if1.true))
+    sym (missing_place (sheet i) (finder i) _ (at i) _ (hand i).known (agreed i) (rw c.before.kind-within.ensures at c.if1.true))
 
 mul_if2 : tie.Need-overflow-mul-if2 invariant_loop decreases_loop
 mul_if2 c = search rules
@@ -95,7 +95,7 @@ loop_again c =
     let i = c.before.before.before.before.before in
     rw (c.next-within.ensures, kind) (
       (hand i).later,
-      agrees-next (sheet i) (finder i) _ (at i) _ (hand i).known (agreed i) (rw kind at c.before.before.before.if1.false) (rw kind at c.before.if2.false),
+      agrees_next (sheet i) (finder i) _ (at i) _ (hand i).known (agreed i) (rw kind at c.before.before.before.if1.false) (rw kind at c.before.if2.false),
     )
 
 returns_3 : tie.Need-returns-3 invariant_loop decreases_loop

@@ -82,8 +82,8 @@ module _ (s t : Bool) {X Y e : ℕ} (z d : ℕ) (A : Operand X e) (B : Operand Y
     held : RoundsWideToOdd w (X * 2 ^ e - n) (2 ^ e)
     held = subst (λ (x : ℕ). RoundsWideToOdd x (X * 2 ^ e - n) (2 ^ e)) (sym q) h.1
 
-    pub difference-cancels : w ≡ 0 → Encodes binary64 0 total
-    difference-cancels z0 =
+    pub difference_cancels : w ≡ 0 → Encodes binary64 0 total
+    difference_cancels z0 =
         let g : X * 2 ^ e - n ≡ 0 = wide_to_odd_zero (X * 2 ^ e - n) (2 ^ e) (subst (λ (x : ℕ). RoundsWideToOdd x (X * 2 ^ e - n) (2 ^ e)) z0 held) in
         subst (λ (v : Float). Encodes binary64 0 v) (sym (sum_level binary64 s (X * 2 ^ e) t n (2 ^ 2274) k (level (X * 2 ^ e) n h.0 g)))
         (encodes_zero binary64 false (X * 2 ^ e - n) (2 ^ 2274) g (pow_pos 2274))
@@ -91,8 +91,8 @@ module _ (s t : Bool) {X Y e : ℕ} (z d : ℕ) (A : Operand X e) (B : Operand Y
         level : (a b : ℕ) → b ≤ a → a - b ≡ 0 → a ≡ b
         level a b p r = omega arith
 
-    pub difference-leads : 0 < w → (r : ℕ) → Answers s w r → Encodes binary64 r total
-    difference-leads p r f =
+    pub difference_leads : 0 < w → (r : ℕ) → Answers s w r → Encodes binary64 r total
+    difference_leads p r f =
         subst (λ (v : Float). Encodes binary64 r v) (sym (sum_more binary64 s (X * 2 ^ e) t n (2 ^ 2274) k (more (X * 2 ^ e) n (wide_to_odd_positive w (X * 2 ^ e - n) (2 ^ e) (pow_pos e) p held))))
         (f (X * 2 ^ e - n) held)
       where

@@ -37,18 +37,18 @@ module _ (f : Format) (s : Bool) (a : ℕ) (t : Bool) (b c : ℕ) where
   rest e h = differ e ∙ ap (λ (k : Bool). cond k (round f t (b - a) c) (round f (s && ltb b a) (a - b) c)) (no a b h)
 
   pub sum_more : beq s t ≡ false → b < a → sum f s a t b c ≡ round f s (a - b) c
-  sum_more e h = rest e (le_of_lt h) ∙ ap (λ (k : Bool). round f (s && k) (a - b) c) (yes b a h) ∙ ap (λ (k : Bool). round f k (a - b) c) (with-true s)
+  sum_more e h = rest e (le_of_lt h) ∙ ap (λ (k : Bool). round f (s && k) (a - b) c) (yes b a h) ∙ ap (λ (k : Bool). round f k (a - b) c) (with_true s)
     where
-      with-true : (s : Bool) → (s && true) ≡ s
-      with-true true = refl
-      with-true false = refl
+      with_true : (s : Bool) → (s && true) ≡ s
+      with_true true = refl
+      with_true false = refl
 
   pub sum_level : beq s t ≡ false → a ≡ b → sum f s a t b c ≡ round f false (a - b) c
-  sum_level e h = rest e (le_of_eq (sym h)) ∙ ap (λ (k : Bool). round f (s && k) (a - b) c) (no b a (le_of_eq h)) ∙ ap (λ (k : Bool). round f k (a - b) c) (with-false s)
+  sum_level e h = rest e (le_of_eq (sym h)) ∙ ap (λ (k : Bool). round f (s && k) (a - b) c) (no b a (le_of_eq h)) ∙ ap (λ (k : Bool). round f k (a - b) c) (with_false s)
     where
-      with-false : (s : Bool) → (s && false) ≡ false
-      with-false true = refl
-      with-false false = refl
+      with_false : (s : Bool) → (s && false) ≡ false
+      with_false true = refl
+      with_false false = refl
 
 -- ---- three ways for two numbers to stand
 abbrev Order : ℕ → ℕ → Type 0

@@ -4,7 +4,7 @@ use mathlib.Core.Path.{sym, ap}
 use Prim.Native.Nat.{ℕ, ◌+◌}
 use native.Mathlib.Omega.{arith}
 use borrow.Author.Rules.{rules}
-use Rattle.look_up.proofs.Looking.{look_hit, look-past, look_none}
+use Rattle.look_up.proofs.Looking.{look_hit, look_past, look_none}
 use Rattle.look_up.proofs.look_in.Statement.{statement}
 use Rattle.look_up.proofs.look_in.Tie as tie
 
@@ -25,7 +25,7 @@ returns_2 : tie.Need-returns-2
 returns_2 c =
     let s = c.before.before.before.before.before.args in
     sym
-    (look-past s.finder.now s.c s.kind s.number
+    (look_past s.finder.now s.c s.kind s.number
     (omega (arith, c.before.before.before.count-for.ensures))
     _
     (ap (λ (start : ℕ). start + s.number) c.before.start-for.ensures.0)

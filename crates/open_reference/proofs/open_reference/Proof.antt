@@ -10,7 +10,7 @@ use Rattle.records.specs.Sources.{label}
 use Rattle.plan_rules.specs.World.{world}
 use Rattle.plan_rules.specs.declared.Reason.{Reason}
 use Rattle.plan_rules.specs.OnTape.{add_load}
-use Rattle.open_reference.proofs.SourcedReference.{HasBox, HasMembers, reference_unboxed, reference_empty, reference-culled, reference-detail-full, reference-exhausted, reference-opened}
+use Rattle.open_reference.proofs.SourcedReference.{HasBox, HasMembers, reference_unboxed, reference_empty, reference_culled, reference_detail_full, reference_exhausted, reference_opened}
 use Rattle.events.proofs.Over.{is_over}
 use borrow.Author.Rules.{rules}
 use Rattle.open_reference.proofs.open_reference.Statement.{statement}
@@ -79,7 +79,7 @@ culled c =
     let at = at-overlaps.before in
     λ g on depth k m.
     is_over _ _ _ _ _ k m c.over3.ensures
-    ∙ reference-culled g on depth _ _ _ (source (boxes at)) (whole at) (sym at-overlaps.overlaps.ensures ∙ not-true _ at-culled.before.if1.true) _ (at-culled.count-culled-reference.ensures _ k m)
+    ∙ reference_culled g on depth _ _ _ (source (boxes at)) (whole at) (sym at-overlaps.overlaps.ensures ∙ not-true _ at-culled.before.if1.true) _ (at-culled.count-culled-reference.ensures _ k m)
 
 full : tie.Need-returns-4
 full c =
@@ -90,7 +90,7 @@ full c =
     let at = transformed else1 in
     λ g on depth k m.
     is_over _ _ _ _ _ k m c.over4.ensures
-    ∙ reference-detail-full g on depth _ _ _ (source (boxes at)) (whole at) (seen else1) (sym asked.detail-cells-full.ensures ∙ added.before.before.if2.true) _
+    ∙ reference_detail_full g on depth _ _ _ (source (boxes at)) (whole at) (seen else1) (sym asked.detail-cells-full.ensures ∙ added.before.before.if2.true) _
     (added.add-load.ensures k m ∙ labelled at_label _ k m)
 
 exhausted : tie.Need-returns-5
@@ -103,7 +103,7 @@ exhausted c =
     let at = transformed else1 in
     λ g on depth k m.
     is_over _ _ _ _ _ k m c.over5.ensures
-    ∙ reference-exhausted g on depth _ _ _ (source (boxes at)) (whole at) (seen else1) (sym else2.before.detail-cells-full.ensures ∙ else2.if2.false)
+    ∙ reference_exhausted g on depth _ _ _ (source (boxes at)) (whole at) (seen else1) (sym else2.before.detail-cells-full.ensures ∙ else2.if2.false)
     (sym (asked.detail-budget-exhausted.ensures g.hidden) ∙ added.before.before.if3.true) _ (added.add-load2.ensures k m ∙ labelled at_label _ k m)
 
 opened : tie.Need-returns-6
@@ -113,7 +113,7 @@ opened c =
     let else1 = else2.before.before.before in
     let at = transformed else1 in
     λ g on depth k m.
-    reference-opened g on depth _ _ _ (source (boxes at)) (whole at) (seen else1)
+    reference_opened g on depth _ _ _ (source (boxes at)) (whole at) (seen else1)
     (sym else2.before.detail-cells-full.ensures ∙ else2.if2.false)
     (sym (asked.detail-budget-exhausted.ensures g.hidden) ∙ c.if3.false)
 

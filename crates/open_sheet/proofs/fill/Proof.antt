@@ -13,7 +13,7 @@ use Rattle.check_record.specs.Record.{Right}
 use Rattle.check_sheet.proofs.Valid.{valid_from_start}
 use Rattle.finder.specs.Finder.{finder_of, starts_of}
 use Rattle.finder.proofs.Running.{AtHand, at_hand}
-use Rattle.open_sheet.proofs.Filling.{Fills, fills_start, fills-within, fills-next, fills-end}
+use Rattle.open_sheet.proofs.Filling.{Fills, fills_start, fills_within, fills_next, fills_end}
 use Rattle.open_sheet.proofs.fill.Statement.{statement}
 use Rattle.open_sheet.proofs.fill.Tie as tie
 
@@ -46,7 +46,7 @@ module _ (c : tie.In-loop invariant_loop decreases_loop) where
 
 -- its place is within the list
 within : (c : tie.After-kind-within invariant_loop decreases_loop) → get_or c.before.before.loop.places c.kind-within.result 0 < length c.before.before.loop.finder
-within c = let i = c.before in rw c.kind-within.ensures (fills-within (sheet i) (lent i) (room i) _ _ (at i) _ (hand i).known (filled i))
+within c = let i = c.before in rw c.kind-within.ensures (fills_within (sheet i) (lent i) (room i) _ _ (at i) _ (hand i).known (filled i))
 
 -- a sheet's size has 32 bits
 cast_size : tie.Need-overflow-cast-size invariant_loop decreases_loop
@@ -88,7 +88,7 @@ loop_again : tie.Need-loop-preserved invariant_loop decreases_loop
 loop_again c =
     let i = c.before.before in
     rw (c.next-within.ensures, c.before.kind-within.ensures)
-    ((hand i).later, fills-next (sheet i) (lent i) (room i) _ _ (at i) _ (hand i).known (filled i))
+    ((hand i).later, fills_next (sheet i) (lent i) (room i) _ _ (at i) _ (hand i).known (filled i))
 
 same_length : tie.Need-same-length invariant_loop decreases_loop
 same_length c = search rules
@@ -98,7 +98,7 @@ returns c =
     let a = c.before.before.before.before.before in
     let s = a.args.sheet.now in
     let l = c.before.loop in
-    fills-end s a.args.finder.now a.requires.1.1 _ l.places (subst (Fills s a.args.finder.now l.finder l.places) (offsets_end s _ c.loop-test.false) l.invariant.1)
+    fills_end s a.args.finder.now a.requires.1.1 _ l.places (subst (Fills s a.args.finder.now l.finder l.places) (offsets_end s _ c.loop-test.false) l.invariant.1)
 
 pub fill_spec : {M : Type 1} → statement M
 fill_spec =

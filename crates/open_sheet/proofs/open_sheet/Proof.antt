@@ -12,7 +12,7 @@ use Rattle.check_sheet.proofs.Valid.{sound_valid, sound_counts}
 use Rattle.look_up.specs.Places.{count_for, start_for}
 use Rattle.open_sheet.specs.declared.Opened.TheVariants.{Open, NoRoom}
 use Rattle.open_sheet.specs.Opening.{opening}
-use Rattle.open_sheet.proofs.Answers.{opening_by, places_taken, opened-short, opened-filled}
+use Rattle.open_sheet.proofs.Answers.{opening_by, places_taken, opened_short, opened_filled}
 use Rattle.open_sheet.proofs.open_sheet.Statement.{statement}
 use Rattle.open_sheet.proofs.open_sheet.Tie as tie
 
@@ -35,7 +35,7 @@ returns : tie.Need-returns
 returns c =
     let k = c.before.before.before.before.before in
     ap (opening (NoRoom (places k))) c.before.before.clear.ensures
-    ∙ sym (opened-short _ _ (sound k) _ (counted k) _ (omega arith))
+    ∙ sym (opened_short _ _ (sound k) _ (counted k) _ (omega arith))
 
 fill_requires : tie.Need-fill-requires
 fill_requires c κs =
@@ -50,7 +50,7 @@ returns_3 : tie.Need-returns-3
 returns_3 c =
     let k = c.before.before.before.before.before in
     ap (opening (Open (places k))) c.before.before.fill.ensures
-    ∙ sym (opened-filled _ _ (sound k) _ (counted k) _ (omega arith))
+    ∙ sym (opened_filled _ _ (sound k) _ (counted k) _ (omega arith))
 
 pub open_sheet_spec : {M : Type 1} → statement M
 open_sheet_spec =

@@ -13,7 +13,7 @@ use Rattle.screen.specs.Screen.{ref_load_threshold_px, collapse_test, collapses,
 use Rattle.abstract_sheet.specs.Sheet.{CellRecord}
 use Rattle.plan_rules.specs.Maps.{empty_maps, fold_maps, map_or_one, fresh_cell, mapped_cell, mapped_reference_with, mapped_source, mapped_reference}
 use Rattle.plan_rules.specs.Readings.{grid_of_cell, cell_with, grid_units_at, readings, AllHold}
-use Rattle.plan_rules.proofs.Memory.Faithful.{CellsBelow, reference-same}
+use Rattle.plan_rules.proofs.Memory.Faithful.{CellsBelow, reference_same}
 use Rattle.plan_rules.proofs.Memory.Start.{fresh_agree}
 use Rattle.plan_rules.proofs.UnusedSites.{under_128_never_dense}
 use Rattle.plan_rules.proofs.Cases.Opened.{opened}
@@ -43,7 +43,7 @@ two_by_three_of_nothing : (depth : ℕ) → 2 ≤ depth → grid_units_at depth 
 two_by_three_of_nothing zero h = absurd (omega arith)
 two_by_three_of_nothing (suc zero) h = absurd (omega arith)
 two_by_three_of_nothing (suc (suc depth)) h =
-    (reference-same 1 (suc (suc depth)) (cell_with 0) one_cell (suc (suc depth)) (omega arith) (grid_of_cell 2 3) _ _ _ (fresh_agree 1 (suc (suc depth)))).units
+    (reference_same 1 (suc (suc depth)) (cell_with 0) one_cell (suc (suc depth)) (omega arith) (grid_of_cell 2 3) _ _ _ (fresh_agree 1 (suc (suc depth)))).units
     ∙ two_by_three_over_maps depth (lt-leb (suc (suc depth)) 1 (omega arith)) (ne_eqb (suc depth) 0 (λ e. absurd (omega arith)))
   where
     one_cell : CellsBelow 1 (cell_with 0)

@@ -70,57 +70,57 @@ module _ (n D : ℕ) where
   -- ---- a mark of a cell of the sheet, in the layer l
 
   module _ (m : List ℕ) (room : (D + 2) * n ≤ length m) (l c : ℕ) (hl : l < D + 2) (hc : c < n) (v : ℕ) where
-    mark-there : is_marked (set m (place n l c) v) (place n l c) ≡ not (eqb v 0)
-    mark-there = ap (λ (z : ℕ). not (eqb z 0)) (get_or-set_same m (place n l c) v 0 (let p : place n l c < (D + 2) * n = place_below n l (D + 2) c hl hc in omega (arith, room)))
+    mark_there : is_marked (set m (place n l c) v) (place n l c) ≡ not (eqb v 0)
+    mark_there = ap (λ (z : ℕ). not (eqb z 0)) (get_or-set_same m (place n l c) v 0 (let p : place n l c < (D + 2) * n = place_below n l (D + 2) c hl hc in omega (arith, room)))
 
-    mark-elsewhere : (j x : ℕ) → x < n → (j ≡ l → x ≡ c → ⊥) → is_marked (set m (place n l c) v) (place n j x) ≡ is_marked m (place n j x)
-    mark-elsewhere j x hx h = ap (λ (z : ℕ). not (eqb z 0)) (get_or-set_other m (place n l c) (place n j x) v 0 (places_apart n j l x c hx hc h))
+    mark_elsewhere : (j x : ℕ) → x < n → (j ≡ l → x ≡ c → ⊥) → is_marked (set m (place n l c) v) (place n j x) ≡ is_marked m (place n j x)
+    mark_elsewhere j x hx h = ap (λ (z : ℕ). not (eqb z 0)) (get_or-set_other m (place n l c) (place n j x) v 0 (places_apart n j l x c hx hc h))
 
     -- a set of cells, kept in the layer: `insert` and `remove`
     mark_set : (w : ℕ → Bool) (b : Bool) → not (eqb v 0) ≡ b → ((x : ℕ) → x < n → is_marked m (place n l x) ≡ w x) → (x : ℕ) → x < n → is_marked (set m (place n l c) v) (place n l x) ≡ cond (eqb x c) b (w x)
     mark_set w b hv before x hx = by (eqb x c) refl
       where
         by : (t : Bool) → eqb x c ≡ t → is_marked (set m (place n l c) v) (place n l x) ≡ cond t b (w x)
-        by true e = ap (λ (z : ℕ). is_marked (set m (place n l c) v) (place n l z)) (eqb-true x c e) ∙ mark-there ∙ hv
-        by false e = mark-elsewhere l x hx (λ p q. eqb-false x c e q) ∙ before x hx
+        by true e = ap (λ (z : ℕ). is_marked (set m (place n l c) v) (place n l z)) (eqb-true x c e) ∙ mark_there ∙ hv
+        by false e = mark_elsewhere l x hx (λ p q. eqb-false x c e q) ∙ before x hx
 
   module _ (k m : List ℕ) (w : Maps) (a : Agree n D k m w) (c : ℕ) (hc : c < n) where
-    recalled-kept : (l v x y : ℕ) → l < D + 2 → x < n → (y + 1 ≡ l → ⊥) → recalled n k (set m (place n l c) v) x y ≡ recalled n k m x y
+    recalled_kept : (l v x y : ℕ) → l < D + 2 → x < n → (y + 1 ≡ l → ⊥) → recalled n k (set m (place n l c) v) x y ≡ recalled n k m x y
     unfolding recalled
-    recalled-kept l v x y hl hx h = ap (λ (t : Bool). cond t (some (get_or k (place n (y - 1) x) 0)) none) (mark-elsewhere m a.marks_room l c hl hc v (y + 1) x hx (λ p q. h p))
+    recalled_kept l v x y hl hx h = ap (λ (t : Bool). cond t (some (get_or k (place n (y - 1) x) 0)) none) (mark_elsewhere m a.marks_room l c hl hc v (y + 1) x hx (λ p q. h p))
 
     -- the planner opens and closes a cell
-    pub open-agree : (v : ℕ) (b : Bool) → not (eqb v 0) ≡ b → Agree n D k (set m (place n 0 c) v) (opened c b w)
-    open-agree v b hv = record {
+    pub open_agree : (v : ℕ) (b : Bool) → not (eqb v 0) ≡ b → Agree n D k (set m (place n 0 c) v) (opened c b w)
+    open_agree v b hv = record {
       marks_room = let e = length-set m (place n 0 c) v in omega (arith, e, a.marks_room);
       counts_room = a.counts_room;
       visiting = mark_set m a.marks_room 0 c (omega arith) hc v w.cell_stack b hv a.visiting;
-      counting = λ x hx. mark-elsewhere m a.marks_room 0 c (omega arith) hc v 1 x hx (λ p q. let z : ⊥ = omega arith in z) ∙ a.counting x hx;
-      remembered = λ x y hx hy hd. recalled-kept 0 v x y (omega arith) hx (λ p. let z : ⊥ = omega arith in z) ∙ a.remembered x y hx hy hd;
+      counting = λ x hx. mark_elsewhere m a.marks_room 0 c (omega arith) hc v 1 x hx (λ p q. let z : ⊥ = omega arith in z) ∙ a.counting x hx;
+      remembered = λ x y hx hy hd. recalled_kept 0 v x y (omega arith) hx (λ p. let z : ⊥ = omega arith in z) ∙ a.remembered x y hx hy hd;
       shallow = a.shallow;
       outside = a.outside;
     }
 
     -- a count begins and ends
-    count-agree : (v : ℕ) (b : Bool) → not (eqb v 0) ≡ b → Agree n D k (set m (place n 1 c) v) (stacked c b w)
-    count-agree v b hv = record {
+    count_agree : (v : ℕ) (b : Bool) → not (eqb v 0) ≡ b → Agree n D k (set m (place n 1 c) v) (stacked c b w)
+    count_agree v b hv = record {
       marks_room = let e = length-set m (place n 1 c) v in omega (arith, e, a.marks_room);
       counts_room = a.counts_room;
-      visiting = λ x hx. mark-elsewhere m a.marks_room 1 c (omega arith) hc v 0 x hx (λ p q. let z : ⊥ = omega arith in z) ∙ a.visiting x hx;
+      visiting = λ x hx. mark_elsewhere m a.marks_room 1 c (omega arith) hc v 0 x hx (λ p q. let z : ⊥ = omega arith in z) ∙ a.visiting x hx;
       counting = mark_set m a.marks_room 1 c (omega arith) hc v w.stack b hv a.counting;
-      remembered = λ x y hx hy hd. recalled-kept 1 v x y (omega arith) hx (λ p. let z : ⊥ = omega arith in z) ∙ a.remembered x y hx hy hd;
+      remembered = λ x y hx hy hd. recalled_kept 1 v x y (omega arith) hx (λ p. let z : ⊥ = omega arith in z) ∙ a.remembered x y hx hy hd;
       shallow = a.shallow;
       outside = a.outside;
     }
 
     -- a count is remembered
-    remember-agree : (d u : ℕ) → 0 < d → d ≤ D → Agree n D (set k (place n (d - 1) c) u) (set m (place n (d + 1) c) 1) (cached c d u w)
+    remember_agree : (d u : ℕ) → 0 < d → d ≤ D → Agree n D (set k (place n (d - 1) c) u) (set m (place n (d + 1) c) 1) (cached c d u w)
     unfolding recalled
-    remember-agree d u h0 hd = record {
+    remember_agree d u h0 hd = record {
       marks_room = let e = length-set m (place n (d + 1) c) 1 in omega (arith, e, a.marks_room);
       counts_room = let e = length-set k (place n (d - 1) c) u in omega (arith, e, a.counts_room);
-      visiting = λ x hx. mark-elsewhere m a.marks_room (d + 1) c (omega arith) hc 1 0 x hx (λ p q. let z : ⊥ = omega arith in z) ∙ a.visiting x hx;
-      counting = λ x hx. mark-elsewhere m a.marks_room (d + 1) c (omega arith) hc 1 1 x hx (λ p q. let z : ⊥ = omega arith in z) ∙ a.counting x hx;
+      visiting = λ x hx. mark_elsewhere m a.marks_room (d + 1) c (omega arith) hc 1 0 x hx (λ p q. let z : ⊥ = omega arith in z) ∙ a.visiting x hx;
+      counting = λ x hx. mark_elsewhere m a.marks_room (d + 1) c (omega arith) hc 1 1 x hx (λ p q. let z : ⊥ = omega arith in z) ∙ a.counting x hx;
       remembered = λ x y hx hy hz. there x y hx hy hz (eqb x c) refl (eqb y d) refl;
       shallow = λ x. low x (eqb x c);
       outside = λ x y v hx e. a.outside x y v hx (rw (ne_eqb x c (λ q. let z : ⊥ = omega arith in z)) at e);
@@ -131,7 +131,7 @@ module _ (n D : ℕ) where
 
         other : (x y : ℕ) → x < n → 0 < y → y ≤ D → (y ≡ d → x ≡ c → ⊥) → recalled n (set k (place n (d - 1) c) u) (set m (place n (d + 1) c) 1) x y ≡ w.cache x y
         other x y hx hy hz g =
-            ap (λ (t : Bool). cond t (some (get_or (set k (place n (d - 1) c) u) (place n (y - 1) x) 0)) none) (mark-elsewhere m a.marks_room (d + 1) c (omega arith) hc 1 (y + 1) x hx (λ p q. g (let z : y ≡ d = omega arith in z) q))
+            ap (λ (t : Bool). cond t (some (get_or (set k (place n (d - 1) c) u) (place n (y - 1) x) 0)) none) (mark_elsewhere m a.marks_room (d + 1) c (omega arith) hc 1 (y + 1) x hx (λ p q. g (let z : y ≡ d = omega arith in z) q))
             ∙ ap (λ (z : ℕ). cond (is_marked m (place n (y + 1) x)) (some z) none) (get_or-set_other k (place n (d - 1) c) (place n (y - 1) x) u 0 (places_apart n (y - 1) (d - 1) x c hx hc (λ p q. g (let z : y ≡ d = omega arith in z) q)))
             ∙ a.remembered x y hx hy hz
 
@@ -150,8 +150,8 @@ module _ (n D : ℕ) where
   -- ---- a cell that the sheet lacks: the Rust remembers 1 for it, and the places have nothing
 
   module _ (k m : List ℕ) (w : Maps) (a : Agree n D k m w) (c : ℕ) (hc : n ≤ c) where
-    missing-agree : (d : ℕ) → 0 < d → Agree n D k m (cached c d 1 (stacked c false (stacked c true w)))
-    missing-agree d h0 = record {
+    missing_agree : (d : ℕ) → 0 < d → Agree n D k m (cached c d 1 (stacked c false (stacked c true w)))
+    missing_agree d h0 = record {
       marks_room = a.marks_room;
       counts_room = a.counts_room;
       visiting = a.visiting;
@@ -193,17 +193,17 @@ module _ (n D : ℕ) where
       counted_same k m w c x d a hc h0 hd =
           let t = fold_maps (add_mapped walk x) x.references.count 0 (tally x.direct_draw_units (stacked c true w)) in
           let u = fold (add_reference_units visit x) x.references.count 0 (counted x.direct_draw_units k (set m (place n 1 c) 1)) in
-          let y = fold_same x x.references.count 0 (counted x.direct_draw_units k (set m (place n 1 c) 1)) (tally x.direct_draw_units (stacked c true w)) (record { units = refl; agree = count-agree k m w a c hc 1 true refl }) in
+          let y = fold_same x x.references.count 0 (counted x.direct_draw_units k (set m (place n 1 c) 1)) (tally x.direct_draw_units (stacked c true w)) (record { units = refl; agree = count_agree k m w a c hc 1 true refl }) in
           record {
             units = y.units;
             agree = subst (λ (v : ℕ). Agree n D (set u.counts (place n (d - 1) c) u.units) (set (set u.marks (place n 1 c) 0) (place n (d + 1) c) 1) (cached c d v (stacked c false t.maps))) y.units
-                (remember-agree _ _ _ (count-agree _ _ _ y.agree c hc 0 false refl) c hc d _ h0 hd);
+                (remember_agree _ _ _ (count_agree _ _ _ y.agree c hc 0 false refl) c hc d _ h0 hd);
           }
 
-      present-same : (k m : List ℕ) (w : Maps) (c : ℕ) (x : CellRecord) (d : ℕ) → Agree n D k m w → c < n → d ≤ D → Same n D (cell_draw_units_with S n d visit c (some x) k m) (mapped_cell walk d c (some x) w)
+      present_same : (k m : List ℕ) (w : Maps) (c : ℕ) (x : CellRecord) (d : ℕ) → Agree n D k m w → c < n → d ≤ D → Same n D (cell_draw_units_with S n d visit c (some x) k m) (mapped_cell walk d c (some x) w)
       unfolding cell_draw_units_with mapped_cell fresh_cell recalled
-      present-same k m w c x zero a hc hd = rw (a.shallow c) (record { units = refl; agree = a })
-      present-same k m w c x (suc d) a hc hd = by (is_marked m (place n (suc d + 1) c)) refl (w.stack c) refl
+      present_same k m w c x zero a hc hd = rw (a.shallow c) (record { units = refl; agree = a })
+      present_same k m w c x (suc d) a hc hd = by (is_marked m (place n (suc d + 1) c)) refl (w.stack c) refl
         where
           known : (b : Bool) → is_marked m (place n (suc d + 1) c) ≡ b → w.cache c (suc d) ≡ cond b (some (get_or k (place n (suc d - 1) c) 0)) none
           known b e = sym (a.remembered c (suc d) hc (omega arith) hd) ∙ ap (λ (z : Bool). cond z (some (get_or k (place n (suc d - 1) c) 0)) none) e
@@ -213,33 +213,33 @@ module _ (n D : ℕ) where
           by false e true g = rw (known false e, deep d, e, a.counting c hc, g) (record { units = refl; agree = a })
           by false e false g = rw (known false e, deep d, e, a.counting c hc, g) (counted_same k m w c x (suc d) a hc (omega arith) hd)
 
-      missing-same : (k m : List ℕ) (w : Maps) (c d : ℕ) → Agree n D k m w → n ≤ c → Same n D (counted 1 k m) (mapped_cell walk d c none w)
+      missing_same : (k m : List ℕ) (w : Maps) (c d : ℕ) → Agree n D k m w → n ≤ c → Same n D (counted 1 k m) (mapped_cell walk d c none w)
       unfolding mapped_cell fresh_cell map_or_one
-      missing-same k m w c zero a hc = rw (a.shallow c) (record { units = refl; agree = a })
-      missing-same k m w c (suc d) a hc = by (w.cache c (suc d)) refl (w.stack c) refl
+      missing_same k m w c zero a hc = rw (a.shallow c) (record { units = refl; agree = a })
+      missing_same k m w c (suc d) a hc = by (w.cache c (suc d)) refl (w.stack c) refl
         where
           by : (x : Option ℕ) → w.cache c (suc d) ≡ x → (t : Bool) → w.stack c ≡ t → Same n D (counted 1 k m) (mapped_cell walk (suc d) c none w)
           by (some v) e t g = rw e (record { units = sym (a.outside c (suc d) v hc e); agree = a })
           by none e true g = rw (e, deep d, g) (record { units = refl; agree = a })
-          by none e false g = rw (e, deep d, g) (record { units = refl; agree = missing-agree k m w a c hc (suc d) (omega arith) })
+          by none e false g = rw (e, deep d, g) (record { units = refl; agree = missing_agree k m w a c hc (suc d) (omega arith) })
 
       cell_same : (c d : ℕ) (o : Option CellRecord) → S.cell c ≡ o → (k m : List ℕ) (w : Maps) → Agree n D k m w → d ≤ D → Same n D (cell_draw_units_with S n d visit c o k m) (mapped_cell walk d c o w)
       unfolding cell_draw_units_with
-      cell_same c d none e k m w a hd = missing-same k m w c d a (numbered.absent c e)
-      cell_same c d (some x) e k m w a hd = present-same k m w c x d a (numbered.present c x e) hd
+      cell_same c d none e k m w a hd = missing_same k m w c d a (numbered.absent c e)
+      cell_same c d (some x) e k m w a hd = present_same k m w c x d a (numbered.present c x e) hd
 
-      source-same : (x : PreparedSource) (k m : List ℕ) (w : Maps) (d : ℕ) → Agree n D k m w → d ≤ D → Same n D (source_draw_units_with S n d visit x k m) (mapped_source S d walk x w)
+      source_same : (x : PreparedSource) (k m : List ℕ) (w : Maps) (d : ℕ) → Agree n D k m w → d ≤ D → Same n D (source_draw_units_with S n d visit x k m) (mapped_source S d walk x w)
       unfolding source_draw_units_with mapped_source
-      source-same (Cell c) k m w d a hd = cell_same c d (S.cell c) refl k m w a hd
-      source-same (Reference r) k m w d a hd = hv r k m w a
-      source-same (Geometry b) k m w d a hd = record { units = refl; agree = a }
-      source-same (Text b) k m w d a hd = record { units = refl; agree = a }
-      source-same (Node b) k m w d a hd = record { units = refl; agree = a }
+      source_same (Cell c) k m w d a hd = cell_same c d (S.cell c) refl k m w a hd
+      source_same (Reference r) k m w d a hd = hv r k m w a
+      source_same (Geometry b) k m w d a hd = record { units = refl; agree = a }
+      source_same (Text b) k m w d a hd = record { units = refl; agree = a }
+      source_same (Node b) k m w d a hd = record { units = refl; agree = a }
 
-    reference-with-same : (d : ℕ) (visit : PreparedSource → List ℕ → List ℕ → Units) (walk : PreparedSource → Maps → Tally) → ((x : PreparedSource) (k m : List ℕ) (w : Maps) → Agree n D k m w → Same n D (visit x k m) (walk x w))
+    reference_with_same : (d : ℕ) (visit : PreparedSource → List ℕ → List ℕ → Units) (walk : PreparedSource → Maps → Tally) → ((x : PreparedSource) (k m : List ℕ) (w : Maps) → Agree n D k m w → Same n D (visit x k m) (walk x w))
         → (r : PreparedReference) (k m : List ℕ) (w : Maps) → Agree n D k m w → Same n D (reference_draw_units_with d visit r k m) (mapped_reference_with d walk r w)
     unfolding reference_draw_units_with mapped_reference_with
-    reference-with-same d visit walk hv r k m w a = by (eqb (grid_count r.grid) 0) (leb d 1)
+    reference_with_same d visit walk hv r k m w a = by (eqb (grid_count r.grid) 0) (leb d 1)
       where
         by : (b t : Bool)
             → let y = cond t (tally 1 w) (walk r.source w) in
@@ -248,17 +248,17 @@ module _ (n D : ℕ) where
         by false true = record { units = refl; agree = a }
         by false false = record { units = ap (λ (u : ℕ). grid_count r.grid ⊠ u) (hv r.source k m w a).units; agree = (hv r.source k m w a).agree }
 
-    found-same : (visit : PreparedReference → List ℕ → List ℕ → Units) (walk : PreparedReference → Maps → Tally) → ((r : PreparedReference) (k m : List ℕ) (w : Maps) → Agree n D k m w → Same n D (visit r k m) (walk r w))
+    found_same : (visit : PreparedReference → List ℕ → List ℕ → Units) (walk : PreparedReference → Maps → Tally) → ((r : PreparedReference) (k m : List ℕ) (w : Maps) → Agree n D k m w → Same n D (visit r k m) (walk r w))
         → (o : Option PreparedReference) (k m : List ℕ) (w : Maps) → Agree n D k m w → Same n D (found_draw_units visit o k m) (mapped_found walk o w)
     unfolding found_draw_units mapped_found
-    found-same visit walk hv none k m w a = record { units = refl; agree = a }
-    found-same visit walk hv (some r) k m w a = hv r k m w a
+    found_same visit walk hv none k m w a = record { units = refl; agree = a }
+    found_same visit walk hv (some r) k m w a = hv r k m w a
 
     -- THE MEMORY: at every depth that a plan reaches, a reference counts the same over the places and over the maps, and the two agree afterwards
-    pub reference-same : (d : ℕ) → d ≤ D → (r : PreparedReference) (k m : List ℕ) (w : Maps) → Agree n D k m w → Same n D (reference_draw_units S n d r k m) (mapped_reference S d r w)
+    pub reference_same : (d : ℕ) → d ≤ D → (r : PreparedReference) (k m : List ℕ) (w : Maps) → Agree n D k m w → Same n D (reference_draw_units S n d r k m) (mapped_reference S d r w)
     unfolding reference_draw_units mapped_reference
-    reference-same zero h r k m w a = reference-with-same zero _ _ (λ x k m w a. record { units = refl; agree = a }) r k m w a
-    reference-same (suc d) h r k m w a =
-        reference-with-same (suc d) _ _
-        (λ x k m w a. source-same (numbered_draw_units S n d) (λ r w. mapped_found (mapped_reference S d) (S.reference r) w)
-        (λ r k m w a. found-same _ _ (reference-same d (omega arith)) (S.reference r) k m w a) x k m w d a (omega arith)) r k m w a
+    reference_same zero h r k m w a = reference_with_same zero _ _ (λ x k m w a. record { units = refl; agree = a }) r k m w a
+    reference_same (suc d) h r k m w a =
+        reference_with_same (suc d) _ _
+        (λ x k m w a. source_same (numbered_draw_units S n d) (λ r w. mapped_found (mapped_reference S d) (S.reference r) w)
+        (λ r k m w a. found_same _ _ (reference_same d (omega arith)) (S.reference r) k m w a) x k m w d a (omega arith)) r k m w a

@@ -33,15 +33,15 @@ use Rattle.plan_rules.specs.Event.{Event, batch, text, point, proxy, dropped_pro
 use Rattle.plan_rules.specs.World.{Query, hides, detail_cells_full, detail_budget_exhausted, World, world, Flow, go, halt, bind, ending, each, set_mark}
 use Rattle.plan_rules.specs.Scratch.{open_place, is_marked}
 use Rattle.plan_rules.specs.DrawUnits.{Units, counted, reference_draw_units}
-use Rattle.plan_rules.specs.Push.{say, add_load, add_load_if_boxed, pushFoundGeometry, push_geometry, pushFoundText, push_text, push_point, pushFoundNode, push_node}
-use Rattle.plan_rules.specs.Visit.{source_units, collapse_reason, halt_with_cell, halt_with_member, VisitReference, VisitSource, geometryStep, textStep, nodeStep, referenceStep, cellBody, visit_found_cell, visitSourceWith, memberStep, columnStep, visitCountedReference, visitBoxedReference, visitSourcedReference, visit_found_reference, visit_reference, visit_cell}
+use Rattle.plan_rules.specs.Push.{say, add_load, add_load_if_boxed, push_found_geometry, push_geometry, push_found_text, push_text, push_point, push_found_node, push_node}
+use Rattle.plan_rules.specs.Visit.{source_units, collapse_reason, halt_with_cell, halt_with_member, VisitReference, VisitSource, geometry_step, text_step, node_step, reference_step, cell_body, visit_found_cell, visit_source_with, member_step, column_step, visit_counted_reference, visit_boxed_reference, visit_sourced_reference, visit_found_reference, visit_reference, visit_cell}
 use Rattle.plan_rules.specs.Plan.{load_root_box, load_root, visit_root, plan}
 use Rattle.plan_rules.specs.Tape.{no_tag, note, tape}
 use Rattle.plan_rules.specs.Outcome.{fresh_plan, tape_of}
 use Rattle.plan_rules.specs.Maps.{Maps, empty_maps, opened, Tally, mapped_reference}
-use Rattle.plan_rules.proofs.Memory.Faithful.{Agree, CellsBelow, open-agree, reference-same}
+use Rattle.plan_rules.proofs.Memory.Faithful.{Agree, CellsBelow, open_agree, reference_same}
 use Rattle.plan_rules.proofs.Memory.Start.{fresh_agree, cells_below}
-use Rattle.plan_rules.specs.MappedPlan.{emit_beside, with_maps, visitMappedCell, visitMappedSource, visitMappedBoxed, visitMappedSourced, visitMappedFound, visitMappedReference, visitMappedRoot, mappedPlan}
+use Rattle.plan_rules.specs.MappedPlan.{emit_beside, with_maps, visit_mapped_cell, visit_mapped_source, visit_mapped_boxed, visit_mapped_sourced, visit_mapped_found, visit_mapped_reference, visit_mapped_root, mapped_plan}
 use Rattle.plan_rules.specs.Statements.{TapeOverMaps}
 
 module _ {P A : Type 0} (enter : Step → P → P) (emit : P → Event → ℕ → A → A) (S : Sheet) (n D : ℕ) (numbered : CellsBelow n S) (q : Query) where
@@ -118,8 +118,8 @@ module _ {P A : Type 0} (enter : Step → P → P) (emit : P → Event → ℕ �
       halts (apply_same (add_load enter emit t reason.OtherLimit no_label z) (add_load enter beside t reason.OtherLimit no_label z) (load_same t reason.OtherLimit no_label z)
       (apply_same (add_load enter emit here reason.OtherLimit l x) (add_load enter beside here reason.OtherLimit l x) (load_same here reason.OtherLimit l x) h))
 
-  found_geometry_same : (t : P) (i : ℕ) (p : Placement) (x : Option PreparedGeometry) → Keeps (pushFoundGeometry enter emit S q t i p x) (pushFoundGeometry enter beside S q t i p x)
-  unfolding pushFoundGeometry
+  found_geometry_same : (t : P) (i : ℕ) (p : Placement) (x : Option PreparedGeometry) → Keeps (push_found_geometry enter emit S q t i p x) (push_found_geometry enter beside S q t i p x)
+  unfolding push_found_geometry
   found_geometry_same t i p none s o k m w a = same a
   found_geometry_same t i p (some g) s o k m w a =
       let box = transform_bbox p g.bbox in
@@ -134,8 +134,8 @@ module _ {P A : Type 0} (enter : Step → P → P) (emit : P → Event → ℕ �
   unfolding push_geometry
   geometry_same t i p = found_geometry_same t i p (S.geometry i)
 
-  found_text_same : (t : P) (i : ℕ) (p : Placement) (x : Option PreparedText) → Keeps (pushFoundText enter emit S q t i p x) (pushFoundText enter beside S q t i p x)
-  unfolding pushFoundText
+  found_text_same : (t : P) (i : ℕ) (p : Placement) (x : Option PreparedText) → Keeps (push_found_text enter emit S q t i p x) (push_found_text enter beside S q t i p x)
+  unfolding push_found_text
   found_text_same t i p none s o k m w a = same a
   found_text_same t i p (some x) s o k m w a =
       let v = transform_point2 p x.origin in
@@ -152,8 +152,8 @@ module _ {P A : Type 0} (enter : Step → P → P) (emit : P → Event → ℕ �
       cond_flow (not (point_in_bbox v q.view)) (goes (same a))
       (cond_flow (detail_budget_exhausted q s) (halts (same a)) (goes (say_same (enter (point_at j) t) (point x.layer x.node_type v) s o k m w a)))
 
-  found_node_same : (t : P) (p : Placement) (x : Option NodeRecord) → KeepsFlow (pushFoundNode enter emit S q t p x) (pushFoundNode enter beside S q t p x)
-  unfolding pushFoundNode
+  found_node_same : (t : P) (p : Placement) (x : Option NodeRecord) → KeepsFlow (push_found_node enter emit S q t p x) (push_found_node enter beside S q t p x)
+  unfolding push_found_node
   found_node_same t p none s o k m w a = goes (same a)
   found_node_same t p (some x) s o k m w a =
       cond_flow (hides q x.layer x.node_type) (goes (same a)) (each_same (push_point enter emit S q t p x) (push_point enter beside S q t p x) (point_same t p x) x.count 0 s o k m w a)
@@ -173,34 +173,34 @@ module _ {P A : Type 0} (enter : Step → P → P) (emit : P → Event → ℕ �
           → SameFlow (cond (detail_budget_exhausted q s) (halt (add_load_if_boxed enter emit t reason.OtherLimit i box (world s o k m))) x) (cond (detail_budget_exhausted q s) (halt (add_load_if_boxed enter beside t reason.OtherLimit i box (world s (o, w) [] []))) y)
       step_same s o k m w a h = cond_flow (detail_budget_exhausted q s) (halts (load_if_boxed_same t reason.OtherLimit i box s o k m w a)) h
 
-      geometry-step : (j : ℕ) → KeepsFlow (geometryStep enter emit S n q t i c p box j) (geometryStep enter beside S 0 q t i c p box j)
-      unfolding geometryStep
-      geometry-step j s o k m w a = step_same s o k m w a (goes (geometry_same (enter (batch_at j) t) (c.geometries.at j) p s o k m w a))
+      geometry_step_lem : (j : ℕ) → KeepsFlow (geometry_step enter emit S n q t i c p box j) (geometry_step enter beside S 0 q t i c p box j)
+      unfolding geometry_step
+      geometry_step_lem j s o k m w a = step_same s o k m w a (goes (geometry_same (enter (batch_at j) t) (c.geometries.at j) p s o k m w a))
 
-      text-step : (j : ℕ) → KeepsFlow (textStep enter emit S n q t i c p box j) (textStep enter beside S 0 q t i c p box j)
-      unfolding textStep
-      text-step j s o k m w a = step_same s o k m w a (goes (text_same (enter (text_at j) t) (c.texts.at j) p s o k m w a))
+      text_step_lem : (j : ℕ) → KeepsFlow (text_step enter emit S n q t i c p box j) (text_step enter beside S 0 q t i c p box j)
+      unfolding text_step
+      text_step_lem j s o k m w a = step_same s o k m w a (goes (text_same (enter (text_at j) t) (c.texts.at j) p s o k m w a))
 
-      node-step : (j : ℕ) → KeepsFlow (nodeStep enter emit S n q t i c p box j) (nodeStep enter beside S 0 q t i c p box j)
-      unfolding nodeStep
-      node-step j s o k m w a = step_same s o k m w a (halt_with_cell_same t i box (node_same (enter (node_at j) t) (c.nodes.at j) p s o k m w a))
+      node_step_lem : (j : ℕ) → KeepsFlow (node_step enter emit S n q t i c p box j) (node_step enter beside S 0 q t i c p box j)
+      unfolding node_step
+      node_step_lem j s o k m w a = step_same s o k m w a (halt_with_cell_same t i box (node_same (enter (node_at j) t) (c.nodes.at j) p s o k m w a))
 
-      reference-step : (j : ℕ) → KeepsFlow (referenceStep enter emit S n q t i c p box f j) (referenceStep enter beside S 0 q t i c p box g j)
-      unfolding referenceStep
-      reference-step j s o k m w a = step_same s o k m w a (goes (hv (enter (reference_at j) t) (c.references.at j) p s o k m w a))
+      reference_step_lem : (j : ℕ) → KeepsFlow (reference_step enter emit S n q t i c p box f j) (reference_step enter beside S 0 q t i c p box g j)
+      unfolding reference_step
+      reference_step_lem j s o k m w a = step_same s o k m w a (goes (hv (enter (reference_at j) t) (c.references.at j) p s o k m w a))
 
-      body_same : KeepsFlow (cellBody enter emit S n q t i c p box f) (cellBody enter beside S 0 q t i c p box g)
-      unfolding cellBody
+      body_same : KeepsFlow (cell_body enter emit S n q t i c p box f) (cell_body enter beside S 0 q t i c p box g)
+      unfolding cell_body
       body_same s o k m w a =
-          bind_same _ _ (each_same _ _ reference-step c.references.count 0)
-          (bind_same _ _ (each_same _ _ node-step c.nodes.count 0)
-          (bind_same _ _ (each_same _ _ text-step c.texts.count 0) (each_same _ _ geometry-step c.geometries.count 0 s o k m w a)))
+          bind_same _ _ (each_same _ _ reference_step_lem c.references.count 0)
+          (bind_same _ _ (each_same _ _ node_step_lem c.nodes.count 0)
+          (bind_same _ _ (each_same _ _ text_step_lem c.texts.count 0) (each_same _ _ geometry_step_lem c.geometries.count 0 s o k m w a)))
 
-    close-same : (i : ℕ) → i < n → Keeps (set_mark (open_place n i) 0) (λ v. with_maps enter emit (opened i false v.out.1) v)
-    close-same i i< s o k m w a = same (open-agree n D k m w a i i< 0 false refl)
+    close_same : (i : ℕ) → i < n → Keeps (set_mark (open_place n i) 0) (λ v. with_maps enter emit (opened i false v.out.1) v)
+    close_same i i< s o k m w a = same (open_agree n D k m w a i i< 0 false refl)
 
-    cell_same : (t : P) (i : ℕ) (p : Placement) (x : Option CellRecord) → S.cell i ≡ x → Keeps (visit_found_cell enter emit S n q f t i p x) (visitMappedCell enter emit S q g t i p x)
-    unfolding visit_found_cell visitMappedCell
+    cell_same : (t : P) (i : ℕ) (p : Placement) (x : Option CellRecord) → S.cell i ≡ x → Keeps (visit_found_cell enter emit S n q f t i p x) (visit_mapped_cell enter emit S q g t i p x)
+    unfolding visit_found_cell visit_mapped_cell
     cell_same t i p none e s o k m w a = same a
     cell_same t i p (some c) e s o k m w a =
         let box = transform_bounds p c.bbox in
@@ -209,17 +209,17 @@ module _ {P A : Type 0} (enter : Step → P → P) (emit : P → Event → ℕ �
         (cond_same (detail_cells_full s) (load_if_boxed_same t reason.CellLimit i box s o k m w a)
         (cond_same (detail_budget_exhausted q s) (load_if_boxed_same t reason.OtherLimit i box s o k m w a)
         (cond_alike (is_marked m (open_place n i)) (w.cell_stack i) (a.visiting i i<) (load_if_boxed_same t reason.Circle i box s o k m w a)
-        (apply_same (set_mark (open_place n i) 0) (λ v. with_maps enter emit (opened i false v.out.1) v) (close-same i i<)
-        (ending_same (apply_flow (cellBody enter emit S n q t i c p box f) (cellBody enter beside S 0 q t i c p box g) (body_same t i c p box)
-        (say_same t detail_cell s o k (set m (open_place n i) 1) (opened i true w) (open-agree n D k m w a i i< 1 true refl))))))))
+        (apply_same (set_mark (open_place n i) 0) (λ v. with_maps enter emit (opened i false v.out.1) v) (close_same i i<)
+        (ending_same (apply_flow (cell_body enter emit S n q t i c p box f) (cell_body enter beside S 0 q t i c p box g) (body_same t i c p box)
+        (say_same t detail_cell s o k (set m (open_place n i) 1) (opened i true w) (open_agree n D k m w a i i< 1 true refl))))))))
 
-    source-same : (t : P) (x : PreparedSource) (p : Placement) → KeepsFlow (visitSourceWith enter emit S n q f t x p) (visitMappedSource enter emit S q g t x p)
-    unfolding visitSourceWith visitMappedSource
-    source-same t (Geometry i) p s o k m w a = goes (geometry_same t i p s o k m w a)
-    source-same t (Text i) p s o k m w a = goes (text_same t i p s o k m w a)
-    source-same t (Node i) p s o k m w a = node_same t i p s o k m w a
-    source-same t (Reference i) p s o k m w a = goes (hv t i p s o k m w a)
-    source-same t (Cell i) p s o k m w a = goes (cell_same t i p (S.cell i) refl s o k m w a)
+    source_same : (t : P) (x : PreparedSource) (p : Placement) → KeepsFlow (visit_source_with enter emit S n q f t x p) (visit_mapped_source enter emit S q g t x p)
+    unfolding visit_source_with visit_mapped_source
+    source_same t (Geometry i) p s o k m w a = goes (geometry_same t i p s o k m w a)
+    source_same t (Text i) p s o k m w a = goes (text_same t i p s o k m w a)
+    source_same t (Node i) p s o k m w a = node_same t i p s o k m w a
+    source_same t (Reference i) p s o k m w a = goes (hv t i p s o k m w a)
+    source_same t (Cell i) p s o k m w a = goes (cell_same t i p (S.cell i) refl s o k m w a)
 
   -- ---- a reference at a depth, given the visit of its members' sources
 
@@ -228,9 +228,9 @@ module _ {P A : Type 0} (enter : Step → P → P) (emit : P → Event → ℕ �
 
   module _ (f : VisitSource enter emit S n q) (g : VisitSource enter beside S 0 q) (hv : KeepsSources f g) (d : ℕ) (d≤ : d ≤ D) (t : P) where
     module _ (r : PreparedReference) (p : Placement) (sb wb : WorldBBox) where
-      member-same : (u x y : ℕ) → KeepsFlow (memberStep enter emit S n q f d t r p sb wb u x y) (memberStep enter beside S 0 q g d t r p sb wb u x y)
-      unfolding memberStep
-      member-same u x y s o k m w a =
+      member_same : (u x y : ℕ) → KeepsFlow (member_step enter emit S n q f d t r p sb wb u x y) (member_step enter beside S 0 q g d t r p sb wb u x y)
+      unfolding member_step
+      member_same u x y s o k m w a =
           let placement = p · grid_member_transform r.grid x y in
           let box = transform_bbox placement sb in
           let size = reference_screen_size box q.zoom (source_is_degenerate sb) in
@@ -242,49 +242,49 @@ module _ {P A : Type 0} (enter : Step → P → P) (emit : P → Event → ℕ �
           (cond_flow (collapses test) (goes (load_same here (collapse_reason test) (label r.source) box s o k m w a))
           (halt_with_member_same t here (label r.source) box wb (hv here r.source placement s o k m w a)))))
 
-      column-same : (u x : ℕ) → KeepsFlow (columnStep enter emit S n q f d t r p sb wb u x) (columnStep enter beside S 0 q g d t r p sb wb u x)
-      unfolding columnStep
-      column-same u x = each_same _ _ (member-same u x) r.grid.rows 0
+      column_same : (u x : ℕ) → KeepsFlow (column_step enter emit S n q f d t r p sb wb u x) (column_step enter beside S 0 q g d t r p sb wb u x)
+      unfolding column_step
+      column_same u x = each_same _ _ (member_same u x) r.grid.rows 0
 
       -- a count over the places, and one over the maps that is the same
       counted_same : (u : Units) (v : Tally) → u.units ≡ v.units → Agree n D u.counts u.marks v.maps → (s : ScenePlan) (o : A) (k m : List ℕ)
-          → Same (visitCountedReference enter emit S n q f d t r p sb wb u (world s o k m)) (visitCountedReference enter beside S 0 q g d t r p sb wb (counted v.units [] []) (world s (o, v.maps) [] []))
-      unfolding visitCountedReference
+          → Same (visit_counted_reference enter emit S n q f d t r p sb wb u (world s o k m)) (visit_counted_reference enter beside S 0 q g d t r p sb wb (counted v.units [] []) (world s (o, v.maps) [] []))
+      unfolding visit_counted_reference
       counted_same u v e a s o k m =
           let size = reference_screen_size wb q.zoom (source_is_degenerate sb) in
           let test = collapse_test size.width size.height (grid_count r.grid) u.units d false in
-          subst (λ (z : ℕ). Same (visitCountedReference enter emit S n q f d t r p sb wb u (world s o k m)) (visitCountedReference enter beside S 0 q g d t r p sb wb (counted z [] []) (world s (o, v.maps) [] []))) e
+          subst (λ (z : ℕ). Same (visit_counted_reference enter emit S n q f d t r p sb wb u (world s o k m)) (visit_counted_reference enter beside S 0 q g d t r p sb wb (counted z [] []) (world s (o, v.maps) [] []))) e
           (cond_same (collapses test)
           (load_same t (collapse_reason test) (label r.source) wb s o u.counts u.marks v.maps a)
-          (ending_same (each_same _ _ (column-same (source_units u.units (grid_count r.grid))) r.grid.columns 0 s o u.counts u.marks v.maps a)))
+          (ending_same (each_same _ _ (column_same (source_units u.units (grid_count r.grid))) r.grid.columns 0 s o u.counts u.marks v.maps a)))
 
-    boxed-same : (r : PreparedReference) (p : Placement) (sb : WorldBBox) (x : Bounds) → Keeps (visitBoxedReference enter emit S n q f d t r p sb x) (visitMappedBoxed enter emit S q g d t r p sb x)
-    unfolding visitBoxedReference visitMappedBoxed
-    boxed-same r p sb Absent s o k m w a = same a
-    boxed-same r p sb (Box x₀ y₀ x₁ y₁) s o k m w a =
+    boxed_same : (r : PreparedReference) (p : Placement) (sb : WorldBBox) (x : Bounds) → Keeps (visit_boxed_reference enter emit S n q f d t r p sb x) (visit_mapped_boxed enter emit S q g d t r p sb x)
+    unfolding visit_boxed_reference visit_mapped_boxed
+    boxed_same r p sb Absent s o k m w a = same a
+    boxed_same r p sb (Box x₀ y₀ x₁ y₁) s o k m w a =
         let wb = transform_bbox p (bbox x₀ y₀ x₁ y₁) in
-        let c = reference-same n D S numbered d d≤ r k m w a in
+        let c = reference_same n D S numbered d d≤ r k m w a in
         cond_same (not (overlaps wb q.view)) (say_same t culled_reference s o k m w a)
         (cond_same (detail_cells_full s) (load_same t reason.CellLimit (label r.source) wb s o k m w a)
         (cond_same (detail_budget_exhausted q s) (load_same t reason.OtherLimit (label r.source) wb s o k m w a)
         (counted_same r p sb wb (reference_draw_units S n d r k m) (mapped_reference S d r w) c.units c.agree s o k m)))
 
-    sourced-same : (r : PreparedReference) (p : Placement) (x : Bounds) → Keeps (visitSourcedReference enter emit S n q f d t r p x) (visitMappedSourced enter emit S q g d t r p x)
-    unfolding visitSourcedReference visitMappedSourced
-    sourced-same r p Absent s o k m w a = same a
-    sourced-same r p (Box x₀ y₀ x₁ y₁) s o k m w a = boxed-same r p (bbox x₀ y₀ x₁ y₁) (reference_bbox r.grid (bbox x₀ y₀ x₁ y₁)) s o k m w a
+    sourced_same : (r : PreparedReference) (p : Placement) (x : Bounds) → Keeps (visit_sourced_reference enter emit S n q f d t r p x) (visit_mapped_sourced enter emit S q g d t r p x)
+    unfolding visit_sourced_reference visit_mapped_sourced
+    sourced_same r p Absent s o k m w a = same a
+    sourced_same r p (Box x₀ y₀ x₁ y₁) s o k m w a = boxed_same r p (bbox x₀ y₀ x₁ y₁) (reference_bbox r.grid (bbox x₀ y₀ x₁ y₁)) s o k m w a
 
-    found-same : (p : Placement) (x : Option PreparedReference) → Keeps (visit_found_reference enter emit S n q f d t p x) (visitMappedFound enter emit S q g d t p x)
-    unfolding visit_found_reference visitMappedFound
-    found-same p none s o k m w a = same a
-    found-same p (some r) s o k m w a = sourced-same r p r.source_bbox s o k m w a
+    found_same : (p : Placement) (x : Option PreparedReference) → Keeps (visit_found_reference enter emit S n q f d t p x) (visit_mapped_found enter emit S q g d t p x)
+    unfolding visit_found_reference visit_mapped_found
+    found_same p none s o k m w a = same a
+    found_same p (some r) s o k m w a = sourced_same r p r.source_bbox s o k m w a
 
   -- ---- the visits and the plan
 
-  visit_same : (d : ℕ) → d ≤ D → KeepsReferences (visit_reference enter emit S n q d) (visitMappedReference enter emit S q d)
-  unfolding visit_reference visitMappedReference
-  visit_same zero h t i p = found-same (λ t x p w. go w) (λ t x p w. go w) (λ t x p s o k m w a. goes (same a)) 0 h t p (S.reference i)
-  visit_same (suc d) h t i p = found-same _ _ (source-same _ _ (visit_same d (omega arith))) (suc d) h t p (S.reference i)
+  visit_same : (d : ℕ) → d ≤ D → KeepsReferences (visit_reference enter emit S n q d) (visit_mapped_reference enter emit S q d)
+  unfolding visit_reference visit_mapped_reference
+  visit_same zero h t i p = found_same (λ t x p w. go w) (λ t x p w. go w) (λ t x p s o k m w a. goes (same a)) 0 h t p (S.reference i)
+  visit_same (suc d) h t i p = found_same _ _ (source_same _ _ (visit_same d (omega arith))) (suc d) h t p (S.reference i)
 
   root_box_same : (t : P) (x : Bounds) → Keeps (load_root_box enter emit S n q t x) (load_root_box enter beside S 0 q t x)
   unfolding load_root_box
@@ -296,8 +296,8 @@ module _ {P A : Type 0} (enter : Step → P → P) (emit : P → Event → ℕ �
   load_root_same t none s o k m w a = same a
   load_root_same t (some c) s o k m w a = root_box_same t c.bbox s o k m w a
 
-  root_same : (d : ℕ) → d ≤ D → (t : P) → Keeps (visit_root enter emit S n q d t) (visitMappedRoot enter emit S q d t)
-  unfolding visit_root visitMappedRoot visit_cell
+  root_same : (d : ℕ) → d ≤ D → (t : P) → Keeps (visit_root enter emit S n q d t) (visit_mapped_root enter emit S q d t)
+  unfolding visit_root visit_mapped_root visit_cell
   root_same zero h t = load_root_same t (S.cell q.root)
   root_same (suc d) h t = cell_same _ _ (visit_same (suc d) h) t q.root IDENTITY (S.cell q.root) refl
 
@@ -314,8 +314,8 @@ module _ {P A : Type 0} (enter : Step → P → P) (emit : P → Event → ℕ �
 
 -- from zeroed scratch and from empty maps, whatever becomes of the events
 pub plan_over_maps : {P A : Type 0} (enter : Step → P → P) (emit : P → Event → ℕ → A → A) (S : Sheet) (n : ℕ) → CellsBelow n S → (q : Query) (t : P) (o : A)
-    → let x = fresh_plan enter emit S n q t o in let y = mappedPlan enter emit S q t o in (x.state ≡ y.state) × (x.out ≡ y.out.0)
-unfolding fresh_plan plan mappedPlan
+    → let x = fresh_plan enter emit S n q t o in let y = mapped_plan enter emit S q t o in (x.state ≡ y.state) × (x.out ≡ y.out.0)
+unfolding fresh_plan plan mapped_plan
 plan_over_maps enter emit S n numbered q t o =
     let h = totals_same enter emit S n q.depth numbered q t (root_same enter emit S n q.depth numbered q q.depth (omega arith) t empty_plan o _ _ empty_maps (fresh_agree n q.depth)) in
     (same_state enter emit S n q.depth numbered q h, same_out enter emit S n q.depth numbered q h)

@@ -12,7 +12,7 @@ use lib.Dec.{ltb}
 use borrow.Author.Tests.{ltb-true, ltb-false}
 use Rattle.walk.specs.Find.{count_of}
 use Rattle.abstract_sheet.specs.Sheet.{sheet_of, cells}
-use Rattle.abstract_sheet.proofs.Lookup.{item_some, item-below}
+use Rattle.abstract_sheet.proofs.Lookup.{item_some, item_below}
 use Rattle.plan_rules.specs.Scratch.{counts_named, marks_named}
 use Rattle.plan_rules.specs.Maps.{empty_maps}
 use Rattle.plan_rules.proofs.Memory.Faithful.{Agree, zeroed_agree, CellsBelow}
@@ -27,7 +27,7 @@ fresh_agree n depth =
 -- "Items count from 0 within their kind."
 pub cells_below : (s : List ℕ) → CellsBelow (count_of s 5) (sheet_of s)
 cells_below s = record {
-  present = λ c x e. item-below cells s c x e;
+  present = λ c x e. item_below cells s c x e;
   absent = λ c e. by c e (ltb c (count_of s 5)) refl;
 }
   where

@@ -86,22 +86,22 @@ module _ (S : Sheet) (cells d n : ℕ) (k m : List ℕ) where
   units_cell_missing e = found none e
 
   module _ (c : CellRecord) (e : S.cell n ≡ some c) where
-    pub units-depth-zero : eqb d 0 ≡ true → cell_draw_units S cells d n k m ≡ counted 1 k m
+    pub units_depth_zero : eqb d 0 ≡ true → cell_draw_units S cells d n k m ≡ counted 1 k m
     unfolding cell_draw_units_with
-    units-depth-zero a = found (some c) e ∙ (rw a)
+    units_depth_zero a = found (some c) e ∙ (rw a)
 
     module _ (deep : eqb d 0 ≡ false) where
-      pub units-remembered : is_marked m (remembered_place cells d n) ≡ true → cell_draw_units S cells d n k m ≡ counted (get_or k (count_place cells d n) 0) k m
+      pub units_remembered : is_marked m (remembered_place cells d n) ≡ true → cell_draw_units S cells d n k m ≡ counted (get_or k (count_place cells d n) 0) k m
       unfolding cell_draw_units_with
-      units-remembered b = found (some c) e ∙ (rw (deep, b))
+      units_remembered b = found (some c) e ∙ (rw (deep, b))
 
       module _ (fresh : is_marked m (remembered_place cells d n) ≡ false) where
-        pub units-circle : is_marked m (counting_place cells n) ≡ true → cell_draw_units S cells d n k m ≡ counted 1 k m
+        pub units_circle : is_marked m (counting_place cells n) ≡ true → cell_draw_units S cells d n k m ≡ counted 1 k m
         unfolding cell_draw_units_with
-        units-circle x = found (some c) e ∙ (rw (deep, fresh, x))
+        units_circle x = found (some c) e ∙ (rw (deep, fresh, x))
 
-        pub units-counted : is_marked m (counting_place cells n) ≡ false
+        pub units_counted : is_marked m (counting_place cells n) ≡ false
             → cell_draw_units S cells d n k m
             ≡ remember S cells d n (fold (add_reference_units (numbered_draw_units S cells d) c) c.references.count 0 (counted c.direct_draw_units k (set m (counting_place cells n) 1)))
         unfolding cell_draw_units_with
-        units-counted x = found (some c) e ∙ (rw (deep, fresh, x))
+        units_counted x = found (some c) e ∙ (rw (deep, fresh, x))

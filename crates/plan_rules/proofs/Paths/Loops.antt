@@ -22,15 +22,15 @@ module _ {A : Type 0} (f : ℕ → World A → Flow A) (n : ℕ) where
     unfolding each
     each_turn w h = let e : n - i ≡ suc (n - (i + 1)) = omega arith in ap (λ (k : ℕ). each f k i w) e
 
-    pub each-go : (w v : World A) → i < n → f i w ≡ go v → each f (n - i) i w ≡ each f (n - (i + 1)) (i + 1) v
-    each-go w v h e = each_turn w h ∙ ap (λ (x : Flow A). bind x (each f (n - (i + 1)) (i + 1))) e
+    pub each_go : (w v : World A) → i < n → f i w ≡ go v → each f (n - i) i w ≡ each f (n - (i + 1)) (i + 1) v
+    each_go w v h e = each_turn w h ∙ ap (λ (x : Flow A). bind x (each f (n - (i + 1)) (i + 1))) e
 
-    pub each-halt : (w v : World A) → i < n → f i w ≡ halt v → each f (n - i) i w ≡ halt v
-    each-halt w v h e = each_turn w h ∙ ap (λ (x : Flow A). bind x (each f (n - (i + 1)) (i + 1))) e
+    pub each_halt : (w v : World A) → i < n → f i w ≡ halt v → each f (n - i) i w ≡ halt v
+    each_halt w v h e = each_turn w h ∙ ap (λ (x : Flow A). bind x (each f (n - (i + 1)) (i + 1))) e
 
-    pub each-done : (w : World A) → n ≤ i → each f (n - i) i w ≡ go w
+    pub each_done : (w : World A) → n ≤ i → each f (n - i) i w ≡ go w
     unfolding each
-    each-done w h = let e : n - i ≡ 0 = omega arith in ap (λ (k : ℕ). each f k i w) e
+    each_done w h = let e : n - i ≡ 0 = omega arith in ap (λ (k : ℕ). each f k i w) e
 
 -- ---- a loop in two parts
 
@@ -65,7 +65,7 @@ module _ {A : Type 0} where
       ∙ each_append f a (n - a) 0 w
       ∙ ap (λ (x : Flow A). bind x (each f (n - a) (0 + a))) e
       ∙ ap (λ (i : ℕ). each f (n - a) i w₁) (zero-add a)
-      ∙ each-halt f n a w₁ v h k
+      ∙ each_halt f n a w₁ v h k
 
 -- ---- a fold
 

@@ -32,18 +32,18 @@ module _ {f : Fixed} (g : Given f) (w : Output) where
     unfolding plan.load_root
     boxed o a = root (some c) e ∙ ap (λ (o : Bounds). load_root_box g o w) a
 
-    pub root-unboxed : c.bbox ≡ Absent → visit_root g 0 w ≡ w
+    pub root_unboxed : c.bbox ≡ Absent → visit_root g 0 w ≡ w
     unfolding plan.load_root_box
-    root-unboxed a = boxed Absent a
+    root_unboxed a = boxed Absent a
 
     module _ {x₀ y₀ x₁ y₁ : Float} (has-box : c.bbox ≡ Box x₀ y₀ x₁ y₁) where
-      pub root-outside : overlaps (bbox x₀ y₀ x₁ y₁) f.options.view ≡ false → visit_root g 0 w ≡ w
+      pub root_outside : overlaps (bbox x₀ y₀ x₁ y₁) f.options.view ≡ false → visit_root g 0 w ≡ w
       unfolding plan.load_root_box
-      root-outside a = boxed (Box x₀ y₀ x₁ y₁) has-box ∙ (rw a)
+      root_outside a = boxed (Box x₀ y₀ x₁ y₁) has-box ∙ (rw a)
 
-      pub root-loaded : overlaps (bbox x₀ y₀ x₁ y₁) f.options.view ≡ true → visit_root g 0 w ≡ add_load reason.DepthZero f.options.root (bbox x₀ y₀ x₁ y₁) w
+      pub root_loaded : overlaps (bbox x₀ y₀ x₁ y₁) f.options.view ≡ true → visit_root g 0 w ≡ add_load reason.DepthZero f.options.root (bbox x₀ y₀ x₁ y₁) w
       unfolding plan.load_root_box
-      root-loaded a = boxed (Box x₀ y₀ x₁ y₁) has-box ∙ (rw a)
+      root_loaded a = boxed (Box x₀ y₀ x₁ y₁) has-box ∙ (rw a)
 
   -- ---- any other depth
 

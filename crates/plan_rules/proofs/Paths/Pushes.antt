@@ -50,84 +50,84 @@ module _ {f : Fixed} (g : Given f) where
   module _ (n : ℕ) (p : Placement) (w : Output) where
     -- ---- `push_geometry`
 
-    pub geometry-missing : g.sheet.geometry n ≡ none → push_geometry g n p w ≡ w
-    unfolding push.push_geometry push.pushFoundGeometry
-    geometry-missing e = rw e
+    pub geometry_missing : g.sheet.geometry n ≡ none → push_geometry g n p w ≡ w
+    unfolding push.push_geometry push.push_found_geometry
+    geometry_missing e = rw e
 
     module _ {x : PreparedGeometry} (e : g.sheet.geometry n ≡ some x) where
-      pub geometry-hidden : hides (query g) x.layer x.data_type ≡ true → push_geometry g n p w ≡ w
-      unfolding push.push_geometry push.pushFoundGeometry
-      geometry-hidden h = rw (e, h)
+      pub geometry_hidden : hides (query g) x.layer x.data_type ≡ true → push_geometry g n p w ≡ w
+      unfolding push.push_geometry push.push_found_geometry
+      geometry_hidden h = rw (e, h)
 
       module _ (shown : hides (query g) x.layer x.data_type ≡ false) where
-        pub geometry-culled : overlaps (box_of p x) f.options.view ≡ false → push_geometry g n p w ≡ say culled_batch w
-        unfolding push.push_geometry push.pushFoundGeometry
-        geometry-culled a = rw (e, shown, a)
+        pub geometry_culled : overlaps (box_of p x) f.options.view ≡ false → push_geometry g n p w ≡ say culled_batch w
+        unfolding push.push_geometry push.push_found_geometry
+        geometry_culled a = rw (e, shown, a)
 
         module _ (seen : overlaps (box_of p x) f.options.view ≡ true) where
-          pub geometry-skipped : is_subpixel (size_of f p x) ≡ true → push_geometry g n p w ≡ say (skipped_batch (box_of p x)) w
-          unfolding push.push_geometry push.pushFoundGeometry
-          geometry-skipped a = rw (e, shown, seen, a)
+          pub geometry_skipped : is_subpixel (size_of f p x) ≡ true → push_geometry g n p w ≡ say (skipped_batch (box_of p x)) w
+          unfolding push.push_geometry push.push_found_geometry
+          geometry_skipped a = rw (e, shown, seen, a)
 
           module _ (large : is_subpixel (size_of f p x) ≡ false) where
-            pub geometry-dense : is_dense_batch (size_of f p x) x.element_count ≡ true → push_geometry g n p w ≡ add_load reason.DenseBatch no_label (box_of p x) w
-            unfolding push.push_geometry push.pushFoundGeometry
-            geometry-dense a = rw (e, shown, seen, large, a)
+            pub geometry_dense : is_dense_batch (size_of f p x) x.element_count ≡ true → push_geometry g n p w ≡ add_load reason.DenseBatch no_label (box_of p x) w
+            unfolding push.push_geometry push.push_found_geometry
+            geometry_dense a = rw (e, shown, seen, large, a)
 
             module _ (sparse : is_dense_batch (size_of f p x) x.element_count ≡ false) where
-              pub geometry-exhausted : detail_budget_exhausted (query g) w.state ≡ true → push_geometry g n p w ≡ add_load reason.OtherLimit no_label (box_of p x) w
-              unfolding push.push_geometry push.pushFoundGeometry
-              geometry-exhausted a = rw (e, shown, seen, large, sparse, a)
+              pub geometry_exhausted : detail_budget_exhausted (query g) w.state ≡ true → push_geometry g n p w ≡ add_load reason.OtherLimit no_label (box_of p x) w
+              unfolding push.push_geometry push.push_found_geometry
+              geometry_exhausted a = rw (e, shown, seen, large, sparse, a)
 
-              pub geometry-listed : detail_budget_exhausted (query g) w.state ≡ false → push_geometry g n p w ≡ say (batch n p) w
-              unfolding push.push_geometry push.pushFoundGeometry
-              geometry-listed a = rw (e, shown, seen, large, sparse, a)
+              pub geometry_listed : detail_budget_exhausted (query g) w.state ≡ false → push_geometry g n p w ≡ say (batch n p) w
+              unfolding push.push_geometry push.push_found_geometry
+              geometry_listed a = rw (e, shown, seen, large, sparse, a)
 
     -- ---- `push_text`
 
-    pub text-missing : g.sheet.text n ≡ none → push_text g n p w ≡ w
-    unfolding push.push_text push.pushFoundText
-    text-missing e = rw e
+    pub text_missing : g.sheet.text n ≡ none → push_text g n p w ≡ w
+    unfolding push.push_text push.push_found_text
+    text_missing e = rw e
 
     module _ {x : PreparedText} (e : g.sheet.text n ≡ some x) where
-      pub text-hidden : hides (query g) x.layer x.data_type ≡ true → push_text g n p w ≡ w
-      unfolding push.push_text push.pushFoundText
-      text-hidden h = rw (e, h)
+      pub text_hidden : hides (query g) x.layer x.data_type ≡ true → push_text g n p w ≡ w
+      unfolding push.push_text push.push_found_text
+      text_hidden h = rw (e, h)
 
       module _ (shown : hides (query g) x.layer x.data_type ≡ false) where
-        pub text-outside : point_in_bbox (transform_point2 p x.origin) f.options.view ≡ false → push_text g n p w ≡ w
-        unfolding push.push_text push.pushFoundText
-        text-outside a = rw (e, shown, a)
+        pub text_outside : point_in_bbox (transform_point2 p x.origin) f.options.view ≡ false → push_text g n p w ≡ w
+        unfolding push.push_text push.push_found_text
+        text_outside a = rw (e, shown, a)
 
-        pub text-listed : point_in_bbox (transform_point2 p x.origin) f.options.view ≡ true → push_text g n p w ≡ say (text n (transform_point2 p x.origin)) w
-        unfolding push.push_text push.pushFoundText
-        text-listed a = rw (e, shown, a)
+        pub text_listed : point_in_bbox (transform_point2 p x.origin) f.options.view ≡ true → push_text g n p w ≡ say (text n (transform_point2 p x.origin)) w
+        unfolding push.push_text push.push_found_text
+        text_listed a = rw (e, shown, a)
 
     -- ---- `push_node`
 
-    pub node-missing : g.sheet.node n ≡ none → push_node g n p w ≡ go w
-    unfolding push.push_node push.pushFoundNode
-    node-missing e = rw e
+    pub node_missing : g.sheet.node n ≡ none → push_node g n p w ≡ go w
+    unfolding push.push_node push.push_found_node
+    node_missing e = rw e
 
     module _ {x : NodeRecord} (e : g.sheet.node n ≡ some x) where
-      pub node-hidden : hides (query g) x.layer x.node_type ≡ true → push_node g n p w ≡ go w
-      unfolding push.push_node push.pushFoundNode
-      node-hidden h = rw (e, h)
+      pub node_hidden : hides (query g) x.layer x.node_type ≡ true → push_node g n p w ≡ go w
+      unfolding push.push_node push.push_found_node
+      node_hidden h = rw (e, h)
 
-      pub node-shown : hides (query g) x.layer x.node_type ≡ false → push_node g n p w ≡ push_points g p x w
-      unfolding push.push_node push.pushFoundNode
-      node-shown h = rw (e, h)
+      pub node_shown : hides (query g) x.layer x.node_type ≡ false → push_node g n p w ≡ push_points g p x w
+      unfolding push.push_node push.push_found_node
+      node_shown h = rw (e, h)
 
   module _ (p : Placement) (x : NodeRecord) (j : ℕ) (w : Output) where
-    pub point-outside : point_in_bbox (position_of p x j) f.options.view ≡ false → push_point g p x j w ≡ go w
+    pub point_outside : point_in_bbox (position_of p x j) f.options.view ≡ false → push_point g p x j w ≡ go w
     unfolding push.push_point
-    point-outside a = rw a
+    point_outside a = rw a
 
     module _ (inside : point_in_bbox (position_of p x j) f.options.view ≡ true) where
-      pub point-exhausted : detail_budget_exhausted (query g) w.state ≡ true → push_point g p x j w ≡ halt w
+      pub point_exhausted : detail_budget_exhausted (query g) w.state ≡ true → push_point g p x j w ≡ halt w
       unfolding push.push_point
-      point-exhausted b = rw (inside, b)
+      point_exhausted b = rw (inside, b)
 
-      pub point-listed : detail_budget_exhausted (query g) w.state ≡ false → push_point g p x j w ≡ go (say (point x.layer x.node_type (position_of p x j)) w)
+      pub point_listed : detail_budget_exhausted (query g) w.state ≡ false → push_point g p x j w ≡ go (say (point x.layer x.node_type (position_of p x j)) w)
       unfolding push.push_point
-      point-listed b = rw (inside, b)
+      point_listed b = rw (inside, b)

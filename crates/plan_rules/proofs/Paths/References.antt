@@ -30,13 +30,13 @@ module _ {f : Fixed} (g : Given f) where
   -- ---- `visit_reference`
 
   module _ (d n : ℕ) (p : Placement) (w : Output) where
-    pub reference-is : visit_reference g d n p w ≡ visit_found_reference g (on_source_below g d) d p (g.sheet.reference n) w
-    reference-is = by d
+    pub reference_is : visit_reference g d n p w ≡ visit_found_reference g (on_source_below g d) d p (g.sheet.reference n) w
+    reference_is = by d
       where
         by : (d : ℕ) → visit_reference g d n p w ≡ visit_found_reference g (on_source_below g d) d p (g.sheet.reference n) w
         by zero = unfold visit.visit_reference in refl
         by (suc d) = unfold visit.visit_reference visit.visit_source in refl
 
-    pub reference-missing : g.sheet.reference n ≡ none → visit_reference g d n p w ≡ w
+    pub reference_missing : g.sheet.reference n ≡ none → visit_reference g d n p w ≡ w
     unfolding visit.visit_found_reference
-    reference-missing e = reference-is ∙ ap (λ (o : Option PreparedReference). visit_found_reference g (on_source_below g d) d p o w) e
+    reference_missing e = reference_is ∙ ap (λ (o : Option PreparedReference). visit_found_reference g (on_source_below g d) d p o w) e

@@ -57,47 +57,47 @@ is_totals (totals u) = true
 module _ {P : Type 0} (enter : Step → P → P) (S : Sheet) (q : Query) where
   pub record Premises (Stands : ℕ → P → PreparedSource → Placement → Type 0) (Allowed : P → Event → Type 0) : Type 0 where
     -- a step further
-    pub at-batch : (d : ℕ) (t : P) (n : ℕ) (c : CellRecord) (i : ℕ) (p : Placement) → Stands d t (Cell n) p → S.cell n ≡ some c → i < c.geometries.count → Stands d (enter (batch_at i) t) (Geometry (c.geometries.at i)) p
-    pub at-text : (d : ℕ) (t : P) (n : ℕ) (c : CellRecord) (i : ℕ) (p : Placement) → Stands d t (Cell n) p → S.cell n ≡ some c → i < c.texts.count → Stands d (enter (text_at i) t) (Text (c.texts.at i)) p
-    pub at-node : (d : ℕ) (t : P) (n : ℕ) (c : CellRecord) (i : ℕ) (p : Placement) → Stands d t (Cell n) p → S.cell n ≡ some c → i < c.nodes.count → Stands d (enter (node_at i) t) (Node (c.nodes.at i)) p
-    pub at-reference : (d : ℕ) (t : P) (n : ℕ) (c : CellRecord) (i : ℕ) (p : Placement) → Stands d t (Cell n) p → S.cell n ≡ some c → i < c.references.count → Stands d (enter (reference_at i) t) (Reference (c.references.at i)) p
-    pub at-member : (d : ℕ) (t : P) (n : ℕ) (r : PreparedReference) (x y : ℕ) (p : Placement) → Stands (suc d) t (Reference n) p → S.reference n ≡ some r → x < r.grid.columns → y < r.grid.rows
+    pub at_batch : (d : ℕ) (t : P) (n : ℕ) (c : CellRecord) (i : ℕ) (p : Placement) → Stands d t (Cell n) p → S.cell n ≡ some c → i < c.geometries.count → Stands d (enter (batch_at i) t) (Geometry (c.geometries.at i)) p
+    pub at_text : (d : ℕ) (t : P) (n : ℕ) (c : CellRecord) (i : ℕ) (p : Placement) → Stands d t (Cell n) p → S.cell n ≡ some c → i < c.texts.count → Stands d (enter (text_at i) t) (Text (c.texts.at i)) p
+    pub at_node : (d : ℕ) (t : P) (n : ℕ) (c : CellRecord) (i : ℕ) (p : Placement) → Stands d t (Cell n) p → S.cell n ≡ some c → i < c.nodes.count → Stands d (enter (node_at i) t) (Node (c.nodes.at i)) p
+    pub at_reference : (d : ℕ) (t : P) (n : ℕ) (c : CellRecord) (i : ℕ) (p : Placement) → Stands d t (Cell n) p → S.cell n ≡ some c → i < c.references.count → Stands d (enter (reference_at i) t) (Reference (c.references.at i)) p
+    pub at_member : (d : ℕ) (t : P) (n : ℕ) (r : PreparedReference) (x y : ℕ) (p : Placement) → Stands (suc d) t (Reference n) p → S.reference n ≡ some r → x < r.grid.columns → y < r.grid.rows
         → Stands d (enter (member x y) t) r.source (p · grid_member_transform r.grid x y)
     -- what is listed
-    pub listed-batch : (d : ℕ) (t : P) (n : ℕ) (g : PreparedGeometry) (p : Placement) → Stands d t (Geometry n) p → S.geometry n ≡ some g → Allowed t (batch n p)
-    pub listed-text : (d : ℕ) (t : P) (n : ℕ) (x : PreparedText) (p : Placement) → Stands d t (Text n) p → S.text n ≡ some x → Allowed t (text n (transform_point2 p x.origin))
-    pub listed-point : (d : ℕ) (t : P) (n : ℕ) (x : NodeRecord) (j : ℕ) (p : Placement) → Stands d t (Node n) p → S.node n ≡ some x → j < x.count
+    pub listed_batch : (d : ℕ) (t : P) (n : ℕ) (g : PreparedGeometry) (p : Placement) → Stands d t (Geometry n) p → S.geometry n ≡ some g → Allowed t (batch n p)
+    pub listed_text : (d : ℕ) (t : P) (n : ℕ) (x : PreparedText) (p : Placement) → Stands d t (Text n) p → S.text n ≡ some x → Allowed t (text n (transform_point2 p x.origin))
+    pub listed_point : (d : ℕ) (t : P) (n : ℕ) (x : NodeRecord) (j : ℕ) (p : Placement) → Stands d t (Node n) p → S.node n ≡ some x → j < x.count
         → Allowed (enter (point_at j) t) (point x.layer x.node_type (transform_point2 p (x.point j)))
-    pub listed-proxy : (t : P) (y : Reason) (l : ℕ) (b : WorldBBox) → Allowed t (proxy y l b)
-    pub dropped-proxy : (t : P) (y : Reason) (l : ℕ) (b : WorldBBox) → Allowed t (dropped_proxy y l b)
+    pub listed_proxy : (t : P) (y : Reason) (l : ℕ) (b : WorldBBox) → Allowed t (proxy y l b)
+    pub dropped_proxy_lem : (t : P) (y : Reason) (l : ℕ) (b : WorldBBox) → Allowed t (dropped_proxy y l b)
     -- what is skipped, culled or counted
-    pub skipped-batch : (d : ℕ) (t : P) (n : ℕ) (g : PreparedGeometry) (p : Placement) → Stands d t (Geometry n) p → S.geometry n ≡ some g
+    pub skipped_batch_lem : (d : ℕ) (t : P) (n : ℕ) (g : PreparedGeometry) (p : Placement) → Stands d t (Geometry n) p → S.geometry n ≡ some g
         → Yes (is_subpixel (screen_size (transform_bbox p g.bbox) q.zoom)) → Allowed t (skipped_batch (transform_bbox p g.bbox))
-    pub skipped-member : (d : ℕ) (t : P) (n : ℕ) (r : PreparedReference) (b : WorldBBox) (x y : ℕ) (p : Placement) → Stands d t (Reference n) p → S.reference n ≡ some r → r.source_bbox ≡ boxed b → x < r.grid.columns → y < r.grid.rows
+    pub skipped_member_lem : (d : ℕ) (t : P) (n : ℕ) (r : PreparedReference) (b : WorldBBox) (x y : ℕ) (p : Placement) → Stands d t (Reference n) p → S.reference n ≡ some r → r.source_bbox ≡ boxed b → x < r.grid.columns → y < r.grid.rows
         → let z = transform_bbox (p · grid_member_transform r.grid x y) b in
         Yes (is_subpixel (reference_screen_size z q.zoom (source_is_degenerate b))) → Allowed (enter (member x y) t) (skipped_member (source_is_degenerate b) z)
-    pub culled-reference : (t : P) → Allowed t culled_reference
-    pub culled-batch : (t : P) → Allowed t culled_batch
-    pub detail-cell : (t : P) → Allowed t detail_cell
+    pub culled_reference_lem : (t : P) → Allowed t culled_reference
+    pub culled_batch_lem : (t : P) → Allowed t culled_batch
+    pub detail_cell_lem : (t : P) → Allowed t detail_cell
 
   -- where nothing is asked of tags, and of events what all have that a visit says
   pub visit_premises : (Allowed : Event → Type 0) → ((e : Event) → is_totals e ≡ false → Allowed e) → Premises (λ d t s p. Unit {0}) (λ t e. Allowed e)
   visit_premises Allowed ok = record {
-    at-batch = λ d t n c i p h e l. tt;
-    at-text = λ d t n c i p h e l. tt;
-    at-node = λ d t n c i p h e l. tt;
-    at-reference = λ d t n c i p h e l. tt;
-    at-member = λ d t n r x y p h e k l. tt;
-    listed-batch = λ d t n b p h e. ok (batch n p) refl;
-    listed-text = λ d t n x p h e. ok (text n (transform_point2 p x.origin)) refl;
-    listed-point = λ d t n x j p h e l. ok (point x.layer x.node_type (transform_point2 p (x.point j))) refl;
-    listed-proxy = λ t y l b. ok (proxy y l b) refl;
-    dropped-proxy = λ t y l b. ok (dropped_proxy y l b) refl;
-    skipped-batch = λ d t n g p h e y. ok (skipped_batch (transform_bbox p g.bbox)) refl;
-    skipped-member = λ d t n r b x y p h e eb k l z. ok (skipped_member (source_is_degenerate b) (transform_bbox (p · grid_member_transform r.grid x y) b)) refl;
-    culled-reference = λ t. ok culled_reference refl;
-    culled-batch = λ t. ok culled_batch refl;
-    detail-cell = λ t. ok detail_cell refl;
+    at_batch = λ d t n c i p h e l. tt;
+    at_text = λ d t n c i p h e l. tt;
+    at_node = λ d t n c i p h e l. tt;
+    at_reference = λ d t n c i p h e l. tt;
+    at_member = λ d t n r x y p h e k l. tt;
+    listed_batch = λ d t n b p h e. ok (batch n p) refl;
+    listed_text = λ d t n x p h e. ok (text n (transform_point2 p x.origin)) refl;
+    listed_point = λ d t n x j p h e l. ok (point x.layer x.node_type (transform_point2 p (x.point j))) refl;
+    listed_proxy = λ t y l b. ok (proxy y l b) refl;
+    dropped_proxy_lem = λ t y l b. ok (dropped_proxy y l b) refl;
+    skipped_batch_lem = λ d t n g p h e y. ok (skipped_batch (transform_bbox p g.bbox)) refl;
+    skipped_member_lem = λ d t n r b x y p h e eb k l z. ok (skipped_member (source_is_degenerate b) (transform_bbox (p · grid_member_transform r.grid x y) b)) refl;
+    culled_reference_lem = λ t. ok culled_reference refl;
+    culled_batch_lem = λ t. ok culled_batch refl;
+    detail_cell_lem = λ t. ok detail_cell refl;
   }
 
   -- where nothing is asked of tags and events

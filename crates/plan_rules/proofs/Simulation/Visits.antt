@@ -32,8 +32,8 @@ use Rattle.plan_rules.specs.Event.{Event, batch, text, point, proxy, dropped_pro
 use Rattle.plan_rules.specs.World.{Query, hides, detail_cells_full, detail_budget_exhausted, World, world, Flow, go, halt, set_mark}
 use Rattle.plan_rules.specs.Scratch.{open_place, is_marked}
 use Rattle.plan_rules.specs.DrawUnits.{Units, reference_draw_units}
-use Rattle.plan_rules.specs.Push.{say, add_load, add_load_if_boxed, pushFoundGeometry, push_geometry, pushFoundText, push_text, push_point, pushFoundNode, push_node}
-use Rattle.plan_rules.specs.Visit.{source_units, halt_with_cell, halt_with_member, VisitReference, VisitSource, geometryStep, textStep, nodeStep, referenceStep, cellBody, visit_found_cell, visitSourceWith, memberStep, columnStep, visitCountedReference, visitBoxedReference, visitSourcedReference, visit_found_reference, visit_reference, visit_cell}
+use Rattle.plan_rules.specs.Push.{say, add_load, add_load_if_boxed, push_found_geometry, push_geometry, push_found_text, push_text, push_point, push_found_node, push_node}
+use Rattle.plan_rules.specs.Visit.{source_units, halt_with_cell, halt_with_member, VisitReference, VisitSource, geometry_step, text_step, node_step, reference_step, cell_body, visit_found_cell, visit_source_with, member_step, column_step, visit_counted_reference, visit_boxed_reference, visit_sourced_reference, visit_found_reference, visit_reference, visit_cell}
 use Rattle.plan_rules.specs.Plan.{load_root_box, load_root, visit_root, plan}
 use Rattle.plan_rules.proofs.Simulation.{Related, related, RelatedFlow, goes, halts, KeepsAt, Keeps, KeepsFlowAt, KeepsFlow, apply_sim, apply_flow_sim, cond_sim, cond_flow_sim, bind_sim, ending_sim, each_sim}
 use Rattle.plan_rules.proofs.Simulation.Premises.{Room, Premises}
@@ -72,8 +72,8 @@ module _ {PA PB A B : Type 0} (enterA : Step → PA → PA) (enterB : Step → P
   Budget s = Yes (not (detail_budget_exhausted q s))
 
   found_geometry_sim : (d : ℕ) (ta : PA) (tb : PB) (n : ℕ) (p : Placement) → Stands d ta (Geometry n) p → (o : Option PreparedGeometry) → S.geometry n ≡ o
-      → Keeps R (pushFoundGeometry enterA emitA S q ta n p o) (pushFoundGeometry enterB emitB S q tb n p o)
-  unfolding pushFoundGeometry
+      → Keeps R (push_found_geometry enterA emitA S q ta n p o) (push_found_geometry enterB emitB S q tb n p o)
+  unfolding push_found_geometry
   found_geometry_sim d ta tb n p h none e s a b k m r = related r
   found_geometry_sim d ta tb n p h (some x) e s a b k m r =
       let box = transform_bbox p x.bbox in
@@ -90,8 +90,8 @@ module _ {PA PB A B : Type 0} (enterA : Step → PA → PA) (enterB : Step → P
   geometry_sim d ta tb n p h = found_geometry_sim d ta tb n p h (S.geometry n) refl
 
   found_text_sim : (d : ℕ) (ta : PA) (tb : PB) (n : ℕ) (p : Placement) → Stands d ta (Text n) p → (o : Option PreparedText) → S.text n ≡ o
-      → (s : ScenePlan) → Budget s → KeepsAt R s (pushFoundText enterA emitA S q ta n p o) (pushFoundText enterB emitB S q tb n p o)
-  unfolding pushFoundText
+      → (s : ScenePlan) → Budget s → KeepsAt R s (push_found_text enterA emitA S q ta n p o) (push_found_text enterB emitB S q tb n p o)
+  unfolding push_found_text
   found_text_sim d ta tb n p h none e s z a b k m r = related r
   found_text_sim d ta tb n p h (some x) e s z a b k m r =
       let v = transform_point2 p x.origin in
@@ -112,8 +112,8 @@ module _ {PA PB A B : Type 0} (enterA : Step → PA → PA) (enterB : Step → P
       (λ z. goes (say_sim (enterA (point_at j) ta) (enterB (point_at j) tb) (point x.layer x.node_type v) (G.listed-point d ta n x j p h e j<) s z a b k m r)))
 
   found_node_sim : (d : ℕ) (ta : PA) (tb : PB) (n : ℕ) (p : Placement) → Stands d ta (Node n) p → (o : Option NodeRecord) → S.node n ≡ o
-      → KeepsFlow R (pushFoundNode enterA emitA S q ta p o) (pushFoundNode enterB emitB S q tb p o)
-  unfolding pushFoundNode
+      → KeepsFlow R (push_found_node enterA emitA S q ta p o) (push_found_node enterB emitB S q tb p o)
+  unfolding push_found_node
   found_node_sim d ta tb n p h none e s a b k m r = goes (related r)
   found_node_sim d ta tb n p h (some x) e s a b k m r =
       cond_flow_sim R (hides q x.layer x.node_type) (λ _. goes (related r))
@@ -131,55 +131,55 @@ module _ {PA PB A B : Type 0} (enterA : Step → PA → PA) (enterB : Step → P
   module _ (d : ℕ) (va : VisitReference enterA emitA S cells q) (vb : VisitReference enterB emitB S cells q) (hv : KeepsReferences d va vb) where
     module _ (ta : PA) (tb : PB) (n : ℕ) (c : CellRecord) (p : Placement) (box : Bounds) (h : Stands d ta (Cell n) p) (e : S.cell n ≡ some c) where
       -- at an exhausted budget each loop adds the cell's box and is over
-      step-sim : (s : ScenePlan) (a : A) (b : B) (k m : List ℕ) → R s a b → {f : Flow A} {g : Flow B} → (Budget s → RelatedFlow R f g)
+      step_sim : (s : ScenePlan) (a : A) (b : B) (k m : List ℕ) → R s a b → {f : Flow A} {g : Flow B} → (Budget s → RelatedFlow R f g)
           → RelatedFlow R (cond (detail_budget_exhausted q s) (halt (add_load_if_boxed enterA emitA ta reason.OtherLimit n box (world s a k m))) f) (cond (detail_budget_exhausted q s) (halt (add_load_if_boxed enterB emitB tb reason.OtherLimit n box (world s b k m))) g)
-      step-sim s a b k m r u = cond_flow_sim R (detail_budget_exhausted q s) (λ _. halts (load_if_boxed_sim ta tb _ n box s a b k m r)) u
+      step_sim s a b k m r u = cond_flow_sim R (detail_budget_exhausted q s) (λ _. halts (load_if_boxed_sim ta tb _ n box s a b k m r)) u
 
-      pub geometry-step-sim : (i : ℕ) → i < c.geometries.count → KeepsFlow R (geometryStep enterA emitA S cells q ta n c p box i) (geometryStep enterB emitB S cells q tb n c p box i)
-      unfolding geometryStep
-      geometry-step-sim i i< s a b k m r = step-sim s a b k m r (λ _. goes (geometry_sim d (enterA (batch_at i) ta) (enterB (batch_at i) tb) (c.geometries.at i) p (G.at-batch d ta n c i p h e i<) s a b k m r))
+      pub geometry_step_sim : (i : ℕ) → i < c.geometries.count → KeepsFlow R (geometry_step enterA emitA S cells q ta n c p box i) (geometry_step enterB emitB S cells q tb n c p box i)
+      unfolding geometry_step
+      geometry_step_sim i i< s a b k m r = step_sim s a b k m r (λ _. goes (geometry_sim d (enterA (batch_at i) ta) (enterB (batch_at i) tb) (c.geometries.at i) p (G.at-batch d ta n c i p h e i<) s a b k m r))
 
-      pub text-step-sim : (i : ℕ) → i < c.texts.count → KeepsFlow R (textStep enterA emitA S cells q ta n c p box i) (textStep enterB emitB S cells q tb n c p box i)
-      unfolding textStep
-      text-step-sim i i< s a b k m r = step-sim s a b k m r (λ z. goes (text_sim d (enterA (text_at i) ta) (enterB (text_at i) tb) (c.texts.at i) p (G.at-text d ta n c i p h e i<) s z a b k m r))
+      pub text_step_sim : (i : ℕ) → i < c.texts.count → KeepsFlow R (text_step enterA emitA S cells q ta n c p box i) (text_step enterB emitB S cells q tb n c p box i)
+      unfolding text_step
+      text_step_sim i i< s a b k m r = step_sim s a b k m r (λ z. goes (text_sim d (enterA (text_at i) ta) (enterB (text_at i) tb) (c.texts.at i) p (G.at-text d ta n c i p h e i<) s z a b k m r))
 
-      pub node-step-sim : (i : ℕ) → i < c.nodes.count → KeepsFlow R (nodeStep enterA emitA S cells q ta n c p box i) (nodeStep enterB emitB S cells q tb n c p box i)
-      unfolding nodeStep
-      node-step-sim i i< s a b k m r = step-sim s a b k m r (λ _. halt_with_cell_sim ta tb n box (node_sim d (enterA (node_at i) ta) (enterB (node_at i) tb) (c.nodes.at i) p (G.at-node d ta n c i p h e i<) s a b k m r))
+      pub node_step_sim : (i : ℕ) → i < c.nodes.count → KeepsFlow R (node_step enterA emitA S cells q ta n c p box i) (node_step enterB emitB S cells q tb n c p box i)
+      unfolding node_step
+      node_step_sim i i< s a b k m r = step_sim s a b k m r (λ _. halt_with_cell_sim ta tb n box (node_sim d (enterA (node_at i) ta) (enterB (node_at i) tb) (c.nodes.at i) p (G.at-node d ta n c i p h e i<) s a b k m r))
 
-      pub reference-step-sim : (i : ℕ) → i < c.references.count → KeepsFlow R (referenceStep enterA emitA S cells q ta n c p box va i) (referenceStep enterB emitB S cells q tb n c p box vb i)
-      unfolding referenceStep
-      reference-step-sim i i< s a b k m r = step-sim s a b k m r (λ _. goes (hv (enterA (reference_at i) ta) (enterB (reference_at i) tb) (c.references.at i) p (G.at-reference d ta n c i p h e i<) s a b k m r))
+      pub reference_step_sim : (i : ℕ) → i < c.references.count → KeepsFlow R (reference_step enterA emitA S cells q ta n c p box va i) (reference_step enterB emitB S cells q tb n c p box vb i)
+      unfolding reference_step
+      reference_step_sim i i< s a b k m r = step_sim s a b k m r (λ _. goes (hv (enterA (reference_at i) ta) (enterB (reference_at i) tb) (c.references.at i) p (G.at-reference d ta n c i p h e i<) s a b k m r))
 
-      body-sim : KeepsFlow R (cellBody enterA emitA S cells q ta n c p box va) (cellBody enterB emitB S cells q tb n c p box vb)
-      unfolding cellBody
-      body-sim s a b k m r =
-          bind_sim R _ _ (each_sim R _ _ c.references.count reference-step-sim)
-          (bind_sim R _ _ (each_sim R _ _ c.nodes.count node-step-sim)
-          (bind_sim R _ _ (each_sim R _ _ c.texts.count text-step-sim)
-          (each_sim R _ _ c.geometries.count geometry-step-sim s a b k m r)))
+      body_sim : KeepsFlow R (cell_body enterA emitA S cells q ta n c p box va) (cell_body enterB emitB S cells q tb n c p box vb)
+      unfolding cell_body
+      body_sim s a b k m r =
+          bind_sim R _ _ (each_sim R _ _ c.references.count reference_step_sim)
+          (bind_sim R _ _ (each_sim R _ _ c.nodes.count node_step_sim)
+          (bind_sim R _ _ (each_sim R _ _ c.texts.count text_step_sim)
+          (each_sim R _ _ c.geometries.count geometry_step_sim s a b k m r)))
 
-    found-cell-sim : (ta : PA) (tb : PB) (n : ℕ) (p : Placement) → Stands d ta (Cell n) p → (o : Option CellRecord) → S.cell n ≡ o
+    found_cell_sim : (ta : PA) (tb : PB) (n : ℕ) (p : Placement) → Stands d ta (Cell n) p → (o : Option CellRecord) → S.cell n ≡ o
         → Keeps R (visit_found_cell enterA emitA S cells q va ta n p o) (visit_found_cell enterB emitB S cells q vb tb n p o)
     unfolding visit_found_cell
-    found-cell-sim ta tb n p h none e s a b k m r = related r
-    found-cell-sim ta tb n p h (some c) e s a b k m r =
+    found_cell_sim ta tb n p h none e s a b k m r = related r
+    found_cell_sim ta tb n p h (some c) e s a b k m r =
         let box = transform_bounds p c.bbox in
         cond_sim R (is_outside box q.view) (λ _. related r)
         (λ _. cond_sim R (detail_cells_full s) (λ _. load_if_boxed_sim ta tb _ n box s a b k m r)
         (λ _. cond_sim R (detail_budget_exhausted q s) (λ _. load_if_boxed_sim ta tb _ n box s a b k m r)
         (λ _. cond_sim R (is_marked m (open_place cells n)) (λ _. load_if_boxed_sim ta tb _ n box s a b k m r)
         (λ _. apply_sim R (set_mark (open_place cells n) 0) (set_mark (open_place cells n) 0) (λ s a b k m r. related r)
-        (ending_sim R (apply_flow_sim R (cellBody enterA emitA S cells q ta n c p box va) (cellBody enterB emitB S cells q tb n c p box vb) (body-sim ta tb n c p box h e)
+        (ending_sim R (apply_flow_sim R (cell_body enterA emitA S cells q ta n c p box va) (cell_body enterB emitB S cells q tb n c p box vb) (body_sim ta tb n c p box h e)
         (say_sim ta tb detail_cell (G.detail-cell ta) s tt a b k (set m (open_place cells n) 1) r)))))))
 
-    pub source-sim : (ta : PA) (tb : PB) (x : PreparedSource) (p : Placement) → Stands d ta x p → (s : ScenePlan) → Budget s → KeepsFlowAt R s (visitSourceWith enterA emitA S cells q va ta x p) (visitSourceWith enterB emitB S cells q vb tb x p)
-    unfolding visitSourceWith
-    source-sim ta tb (Geometry n) p h s z a b k m r = goes (geometry_sim d ta tb n p h s a b k m r)
-    source-sim ta tb (Text n) p h s z a b k m r = goes (text_sim d ta tb n p h s z a b k m r)
-    source-sim ta tb (Node n) p h s z a b k m r = node_sim d ta tb n p h s a b k m r
-    source-sim ta tb (Reference n) p h s z a b k m r = goes (hv ta tb n p h s a b k m r)
-    source-sim ta tb (Cell n) p h s z a b k m r = goes (found-cell-sim ta tb n p h (S.cell n) refl s a b k m r)
+    pub source_sim : (ta : PA) (tb : PB) (x : PreparedSource) (p : Placement) → Stands d ta x p → (s : ScenePlan) → Budget s → KeepsFlowAt R s (visit_source_with enterA emitA S cells q va ta x p) (visit_source_with enterB emitB S cells q vb tb x p)
+    unfolding visit_source_with
+    source_sim ta tb (Geometry n) p h s z a b k m r = goes (geometry_sim d ta tb n p h s a b k m r)
+    source_sim ta tb (Text n) p h s z a b k m r = goes (text_sim d ta tb n p h s z a b k m r)
+    source_sim ta tb (Node n) p h s z a b k m r = node_sim d ta tb n p h s a b k m r
+    source_sim ta tb (Reference n) p h s z a b k m r = goes (hv ta tb n p h s a b k m r)
+    source_sim ta tb (Cell n) p h s z a b k m r = goes (found_cell_sim ta tb n p h (S.cell n) refl s a b k m r)
 
   -- ---- a reference, given that the visit of its members' sources keeps the relation where the budget is not exhausted
 
@@ -189,9 +189,9 @@ module _ {PA PB A B : Type 0} (enterA : Step → PA → PA) (enterB : Step → P
 
   module _ (d : ℕ) (va : VisitSource enterA emitA S cells q) (vb : VisitSource enterB emitB S cells q) (ta : PA) (tb : PB) (n : ℕ) (r : PreparedReference) (p : Placement) (sb wb : WorldBBox)
       (h : Stands d ta (Reference n) p) (e : S.reference n ≡ some r) (eb : r.source_bbox ≡ boxed sb) (hv : KeepsMembers va vb ta tb r p) where
-    pub member-sim : (u x : ℕ) → x < r.grid.columns → (y : ℕ) → y < r.grid.rows → KeepsFlow R (memberStep enterA emitA S cells q va d ta r p sb wb u x y) (memberStep enterB emitB S cells q vb d tb r p sb wb u x y)
-    unfolding memberStep
-    member-sim u x x< y y< s a b k m o =
+    pub member_sim : (u x : ℕ) → x < r.grid.columns → (y : ℕ) → y < r.grid.rows → KeepsFlow R (member_step enterA emitA S cells q va d ta r p sb wb u x y) (member_step enterB emitB S cells q vb d tb r p sb wb u x y)
+    unfolding member_step
+    member_sim u x x< y y< s a b k m o =
         let box = transform_bbox (p · grid_member_transform r.grid x y) sb in
         let size = reference_screen_size box q.zoom (source_is_degenerate sb) in
         let hereA = enterA (member x y) ta in
@@ -202,55 +202,55 @@ module _ {PA PB A B : Type 0} (enterA : Step → PA → PA) (enterB : Step → P
         (λ _. cond_flow_sim R (collapses (collapse_test size.width size.height 1 u d false)) (λ _. goes (load_sim hereA hereB _ (label r.source) box s a b k m o))
         (λ _. halt_with_member_sim ta hereA tb hereB (label r.source) box wb (hv x y x< y< s z a b k m o)))))
 
-    pub column-sim : (u x : ℕ) → x < r.grid.columns → KeepsFlow R (columnStep enterA emitA S cells q va d ta r p sb wb u x) (columnStep enterB emitB S cells q vb d tb r p sb wb u x)
-    unfolding columnStep
-    column-sim u x x< = each_sim R _ _ r.grid.rows (member-sim u x x<)
+    pub column_sim : (u x : ℕ) → x < r.grid.columns → KeepsFlow R (column_step enterA emitA S cells q va d ta r p sb wb u x) (column_step enterB emitB S cells q vb d tb r p sb wb u x)
+    unfolding column_step
+    column_sim u x x< = each_sim R _ _ r.grid.rows (member_sim u x x<)
 
-    counted-sim : (u : Units) → Keeps R (visitCountedReference enterA emitA S cells q va d ta r p sb wb u) (visitCountedReference enterB emitB S cells q vb d tb r p sb wb u)
-    unfolding visitCountedReference
-    counted-sim u s a b k m o =
+    counted_sim : (u : Units) → Keeps R (visit_counted_reference enterA emitA S cells q va d ta r p sb wb u) (visit_counted_reference enterB emitB S cells q vb d tb r p sb wb u)
+    unfolding visit_counted_reference
+    counted_sim u s a b k m o =
         let size = reference_screen_size wb q.zoom (source_is_degenerate sb) in
         cond_sim R (collapses (collapse_test size.width size.height (grid_count r.grid) u.units d false))
         (λ _. load_sim ta tb _ (label r.source) wb s a b u.counts u.marks o)
-        (λ _. ending_sim R (each_sim R _ _ r.grid.columns (column-sim (source_units u.units (grid_count r.grid))) s a b u.counts u.marks o))
+        (λ _. ending_sim R (each_sim R _ _ r.grid.columns (column_sim (source_units u.units (grid_count r.grid))) s a b u.counts u.marks o))
 
   module _ (d : ℕ) (va : VisitSource enterA emitA S cells q) (vb : VisitSource enterB emitB S cells q) (ta : PA) (tb : PB) (n : ℕ) (p : Placement) (h : Stands d ta (Reference n) p)
       (hv : (r : PreparedReference) → S.reference n ≡ some r → KeepsMembers va vb ta tb r p) where
-    boxed-sim : (r : PreparedReference) → S.reference n ≡ some r → (sb : WorldBBox) → r.source_bbox ≡ boxed sb → (o : Bounds)
-        → Keeps R (visitBoxedReference enterA emitA S cells q va d ta r p sb o) (visitBoxedReference enterB emitB S cells q vb d tb r p sb o)
-    unfolding visitBoxedReference
-    boxed-sim r e sb eb Absent s a b k m i = related i
-    boxed-sim r e sb eb (Box x₀ y₀ x₁ y₁) s a b k m i =
+    boxed_sim : (r : PreparedReference) → S.reference n ≡ some r → (sb : WorldBBox) → r.source_bbox ≡ boxed sb → (o : Bounds)
+        → Keeps R (visit_boxed_reference enterA emitA S cells q va d ta r p sb o) (visit_boxed_reference enterB emitB S cells q vb d tb r p sb o)
+    unfolding visit_boxed_reference
+    boxed_sim r e sb eb Absent s a b k m i = related i
+    boxed_sim r e sb eb (Box x₀ y₀ x₁ y₁) s a b k m i =
         let wb = transform_bbox p (bbox x₀ y₀ x₁ y₁) in
         cond_sim R (not (overlaps wb q.view)) (λ _. say_sim ta tb culled_reference (G.culled-reference ta) s tt a b k m i)
         (λ _. cond_sim R (detail_cells_full s) (λ _. load_sim ta tb _ (label r.source) wb s a b k m i)
         (λ _. cond_sim R (detail_budget_exhausted q s) (λ _. load_sim ta tb _ (label r.source) wb s a b k m i)
-        (λ _. counted-sim d va vb ta tb n r p sb wb h e eb (hv r e) (reference_draw_units S cells d r k m) s a b k m i)))
+        (λ _. counted_sim d va vb ta tb n r p sb wb h e eb (hv r e) (reference_draw_units S cells d r k m) s a b k m i)))
 
-    sourced-sim : (r : PreparedReference) → S.reference n ≡ some r → (o : Bounds) → r.source_bbox ≡ o
-        → Keeps R (visitSourcedReference enterA emitA S cells q va d ta r p o) (visitSourcedReference enterB emitB S cells q vb d tb r p o)
-    unfolding visitSourcedReference boxed
-    sourced-sim r e Absent eb s a b k m i = related i
-    sourced-sim r e (Box x₀ y₀ x₁ y₁) eb s a b k m i = boxed-sim r e (bbox x₀ y₀ x₁ y₁) eb (reference_bbox r.grid (bbox x₀ y₀ x₁ y₁)) s a b k m i
+    sourced_sim : (r : PreparedReference) → S.reference n ≡ some r → (o : Bounds) → r.source_bbox ≡ o
+        → Keeps R (visit_sourced_reference enterA emitA S cells q va d ta r p o) (visit_sourced_reference enterB emitB S cells q vb d tb r p o)
+    unfolding visit_sourced_reference boxed
+    sourced_sim r e Absent eb s a b k m i = related i
+    sourced_sim r e (Box x₀ y₀ x₁ y₁) eb s a b k m i = boxed_sim r e (bbox x₀ y₀ x₁ y₁) eb (reference_bbox r.grid (bbox x₀ y₀ x₁ y₁)) s a b k m i
 
-    found-reference-sim : (o : Option PreparedReference) → S.reference n ≡ o → Keeps R (visit_found_reference enterA emitA S cells q va d ta p o) (visit_found_reference enterB emitB S cells q vb d tb p o)
+    found_reference_sim : (o : Option PreparedReference) → S.reference n ≡ o → Keeps R (visit_found_reference enterA emitA S cells q va d ta p o) (visit_found_reference enterB emitB S cells q vb d tb p o)
     unfolding visit_found_reference
-    found-reference-sim none e s a b k m i = related i
-    found-reference-sim (some r) e s a b k m i = sourced-sim r e r.source_bbox refl s a b k m i
+    found_reference_sim none e s a b k m i = related i
+    found_reference_sim (some r) e s a b k m i = sourced_sim r e r.source_bbox refl s a b k m i
 
   -- ---- the visits
 
   pub reference_sim : (d : ℕ) → KeepsReferences d (visit_reference enterA emitA S cells q d) (visit_reference enterB emitB S cells q d)
   unfolding visit_reference
-  reference_sim zero ta tb n p h = found-reference-sim 0 (λ t s p w. go w) (λ t s p w. go w) ta tb n p h (λ r e x y x< y< s z a b k m i. goes (related i)) (S.reference n) refl
+  reference_sim zero ta tb n p h = found_reference_sim 0 (λ t s p w. go w) (λ t s p w. go w) ta tb n p h (λ r e x y x< y< s z a b k m i. goes (related i)) (S.reference n) refl
   reference_sim (suc d) ta tb n p h =
-      found-reference-sim (suc d) (visitSourceWith enterA emitA S cells q (visit_reference enterA emitA S cells q d)) (visitSourceWith enterB emitB S cells q (visit_reference enterB emitB S cells q d)) ta tb n p h
-      (λ r e x y x< y<. source-sim d (visit_reference enterA emitA S cells q d) (visit_reference enterB emitB S cells q d) (reference_sim d) (enterA (member x y) ta) (enterB (member x y) tb) r.source (p · grid_member_transform r.grid x y) (G.at-member d ta n r x y p h e x< y<))
+      found_reference_sim (suc d) (visit_source_with enterA emitA S cells q (visit_reference enterA emitA S cells q d)) (visit_source_with enterB emitB S cells q (visit_reference enterB emitB S cells q d)) ta tb n p h
+      (λ r e x y x< y<. source_sim d (visit_reference enterA emitA S cells q d) (visit_reference enterB emitB S cells q d) (reference_sim d) (enterA (member x y) ta) (enterB (member x y) tb) r.source (p · grid_member_transform r.grid x y) (G.at-member d ta n r x y p h e x< y<))
       (S.reference n) refl
 
   pub cell_sim : (d : ℕ) (ta : PA) (tb : PB) (n : ℕ) (p : Placement) → Stands d ta (Cell n) p → Keeps R (visit_cell enterA emitA S cells q d ta n p) (visit_cell enterB emitB S cells q d tb n p)
   unfolding visit_cell
-  cell_sim d ta tb n p h = found-cell-sim d (visit_reference enterA emitA S cells q d) (visit_reference enterB emitB S cells q d) (reference_sim d) ta tb n p h (S.cell n) refl
+  cell_sim d ta tb n p h = found_cell_sim d (visit_reference enterA emitA S cells q d) (visit_reference enterB emitB S cells q d) (reference_sim d) ta tb n p h (S.cell n) refl
 
   -- ---- the plan
 

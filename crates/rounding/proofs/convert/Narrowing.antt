@@ -44,27 +44,27 @@ module _ (n : ℕ) (h : n < 2 ^ 64) where
       (subst (λ (v : Float). Encodes binary32 (cond s (2 ^ 31) 0 + 2139095040) v) (sym (ap narrow (infinity n e k) ∙ narrow_inf s)) (encodes_infinity binary32 s))
 
   module _ (f : exponent_field_of n ≡ 2047 → ⊥) where
-    narrow-is : narrow (of_bits binary64 n) ≡ round binary32 s (significand_of n * 2 ^ exponent_of n) (2 ^ 1074)
-    narrow-is = narrow_at (of_bits binary64 n) s (significand_of n * 2 ^ exponent_of n) (2 ^ 1074) (pow_pos 1074) (value n f)
+    narrow_is : narrow (of_bits binary64 n) ≡ round binary32 s (significand_of n * 2 ^ exponent_of n) (2 ^ 1074)
+    narrow_is = narrow_at (of_bits binary64 n) s (significand_of n * 2 ^ exponent_of n) (2 ^ 1074) (pow_pos 1074) (value n f)
 
-    pub narrow-zero : significand_of n ≡ 0 → Encodes binary32 (sign n) (narrow (of_bits binary64 n))
-    narrow-zero z =
+    pub narrow_zero : significand_of n ≡ 0 → Encodes binary32 (sign n) (narrow (of_bits binary64 n))
+    narrow_zero z =
         subst (λ (x : ℕ). Encodes binary32 x (narrow (of_bits binary64 n))) (add-zero (cond s (2 ^ 31) 0) ∙ sym (sign_is n 31 h (lit< tt)))
-        (subst (λ (v : Float). Encodes binary32 (cond s (2 ^ 31) 0 + 0) v) (sym narrow-is)
+        (subst (λ (v : Float). Encodes binary32 (cond s (2 ^ 31) 0 + 0) v) (sym narrow_is)
         (encodes_zero binary32 s (significand_of n * 2 ^ exponent_of n) (2 ^ 1074) (ap (λ (x : ℕ). x * 2 ^ exponent_of n) z ∙ zero-mul (2 ^ exponent_of n)) (pow_pos 1074)))
 
-    encodes-exactly : (u r : ℕ) → IsLeadingZeros (significand_of n) u → r ≡ packed 24 255 (significand_of n * 2 ^ u % 2 ^ 64) (exponent_of n) (u + 925) → Encodes binary32 (bit_or (sign n) r) (narrow (of_bits binary64 n))
-    encodes-exactly u r t e =
+    encodes_exactly : (u r : ℕ) → IsLeadingZeros (significand_of n) u → r ≡ packed 24 255 (significand_of n * 2 ^ u % 2 ^ 64) (exponent_of n) (u + 925) → Encodes binary32 (bit_or (sign n) r) (narrow (of_bits binary64 n))
+    encodes_exactly u r t e =
         let m = significand_of n * 2 ^ u in
         let y = packed 24 255 m (exponent_of n) (u + 925) in
         let q : y ≡ r = ap (λ (m : ℕ). packed 24 255 m (exponent_of n) (u + 925)) (sym (mod-eq_of_lt t.2)) ∙ sym e in
         let l : r < 2 ^ 31 = subst (λ (x : ℕ). x < 2 ^ 31) q (lt_of_le_of_lt (packed_le 24 255 m (exponent_of n) (u + 925)) (lit< tt)) in
         subst (λ (x : ℕ). Encodes binary32 x (narrow (of_bits binary64 n))) (ap (λ (x : ℕ). cond s (2 ^ 31) 0 + x) q ∙ sym (signed n 31 r h (lit< tt) l))
-        (subst (λ (v : Float). Encodes binary32 (cond s (2 ^ 31) 0 + y) v) (sym narrow-is)
+        (subst (λ (v : Float). Encodes binary32 (cond s (2 ^ 31) 0 + y) v) (sym narrow_is)
         (encodes_rounded binary32 s (significand_of n * 2 ^ exponent_of n) (2 ^ 1074) m (exponent_of n) (u + 925) (pow_pos 1074) t.1 t.2 (significand_to_odd (significand_of n) u (exponent_of n) 149 925 1074 refl)))
 
-    pub narrow-encodes : (digits exponent u r : ℕ) → digits ≡ significand_of n → exponent ≡ exponent_of n → IsLeadingZeros digits u → r ≡ packed 24 255 (digits * 2 ^ u % 2 ^ 64) exponent (u + 925) → Encodes binary32 (bit_or (sign n) r) (narrow (of_bits binary64 n))
-    narrow-encodes digits exponent u r D E t e = encodes-exactly u r (subst (λ (x : ℕ). IsLeadingZeros x u) D t) (e ∙ (λ i. packed 24 255 (D i * 2 ^ u % 2 ^ 64) (E i) (u + 925)))
+    pub narrow_encodes : (digits exponent u r : ℕ) → digits ≡ significand_of n → exponent ≡ exponent_of n → IsLeadingZeros digits u → r ≡ packed 24 255 (digits * 2 ^ u % 2 ^ 64) exponent (u + 925) → Encodes binary32 (bit_or (sign n) r) (narrow (of_bits binary64 n))
+    narrow_encodes digits exponent u r D E t e = encodes_exactly u r (subst (λ (x : ℕ). IsLeadingZeros x u) D t) (e ∙ (λ i. packed 24 255 (D i * 2 ^ u % 2 ^ 64) (E i) (u + 925)))
 
 pub narrow_nan : narrow nan ≡ nan
 unfolding narrow

@@ -12,7 +12,7 @@ use Rattle.rounding.specs.Packed.{packed, Encodes}
 use Rattle.rounding.proofs.Naturals.{lt_or_ge, compare_lt, compare_eq, compare_gt}
 use Rattle.rounding.proofs.nearest.Normalising.{IsLeadingZeros}
 use Rattle.rounding.proofs.decode.Reading.{significand_normal}
-use Rattle.rounding.proofs.convert.Narrowing.{sign, narrow-encodes}
+use Rattle.rounding.proofs.convert.Narrowing.{sign, narrow_encodes}
 
 -- ---- m / 2 ^ 29 to the nearest whole number, by one sum and one shift
 abbrev summed : ℕ → ℕ
@@ -86,14 +86,14 @@ module _ (n : ℕ) (h : n < 2 ^ 63) (lo : 897 ≤ exponent_field_of n) (hi : exp
   rounded_is : rebiased n / 2 ^ 29 ≡ (exponent_field_of n - 897) * 2 ^ 23 + summed (2 ^ 52 + n % 2 ^ 52)
   unfolding exponent_field_of
   rounded_is =
-      (λ i. (fields n h i - 896 * 2 ^ 52 + (2 ^ 28 - 1) + (and_mask (n / 2 ^ 29) 1 ∙ even-bit n) i) / 2 ^ 29)
+      (λ i. (fields n h i - 896 * 2 ^ 52 + (2 ^ 28 - 1) + (and_mask (n / 2 ^ 29) 1 ∙ even_bit n) i) / 2 ^ 29)
       ∙ rebias (n / 2 ^ 52 % 2 ^ 11) (n % 2 ^ 52) ((2 ^ 52 + n % 2 ^ 52) / 2 ^ 29 % 2) lo
     where
       fields : (n : ℕ) → n < 2 ^ 63 → n ≡ n / 2 ^ 52 % 2 ^ 11 * 2 ^ 52 + n % 2 ^ 52
       fields n h = omega arith
 
-      even-bit : (n : ℕ) → n / 2 ^ 29 % 2 ≡ (2 ^ 52 + n % 2 ^ 52) / 2 ^ 29 % 2
-      even-bit n = omega arith
+      even_bit : (n : ℕ) → n / 2 ^ 29 % 2 ≡ (2 ^ 52 + n % 2 ^ 52) / 2 ^ 29 % 2
+      even_bit n = omega arith
 
       rebias : (x t b : ℕ) → 897 ≤ x → (x * 2 ^ 52 + t - 896 * 2 ^ 52 + (2 ^ 28 - 1) + b) / 2 ^ 29 ≡ (x - 897) * 2 ^ 23 + (2 ^ 52 + t + (2 ^ 28 - 1) + b) / 2 ^ 29
       rebias x t b l = omega arith
@@ -106,7 +106,7 @@ module _ (n : ℕ) (h : n < 2 ^ 63) (lo : 897 ≤ exponent_field_of n) (hi : exp
       let T = mod-lt n (pow_pos 52) in
       let z = normalised x t lo hi T in
       subst (λ (r : ℕ). Encodes binary32 r (narrow (of_bits binary64 n))) (ap (λ (s : ℕ). bit_or s (rebiased n / 2 ^ 29)) (no_sign n h) ∙ or_zero_l (rebiased n / 2 ^ 29))
-      (narrow-encodes n (wider n h) (finite x hi) (2 ^ 52 + t) (x - 1) 11 (rebiased n / 2 ^ 29) (significand_normal n (normal x lo)) refl z
+      (narrow_encodes n (wider n h) (finite x hi) (2 ^ 52 + t) (x - 1) 11 (rebiased n / 2 ^ 29) (significand_normal n (normal x lo)) refl z
       (rounded_is ∙ sym (ap (λ (y : ℕ). packed 24 255 y (x - 1) (11 + 925)) (mod-eq_of_lt z.2) ∙ normal_packed x t lo hi T)))
     where
       no_sign : (n : ℕ) → n < 2 ^ 63 → sign n ≡ 0

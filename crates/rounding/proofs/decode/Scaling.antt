@@ -23,7 +23,7 @@ pub normalised_some : (n d s e : ℕ) → d ≡ significand_of n → e ≡ expon
 normalised_some n d s e p q t =
     let l : 11 ≤ s = eleven_leading_zeros d s (subst (λ (x : ℕ). x < 2 ^ 53) (sym p) (significand_lt n)) t.1 in
     let m = d * 2 ^ (s - 1) in
-    let two : d * 2 ^ s ≡ m * 2 = ap (λ (x : ℕ). d * 2 ^ x) (one-back s l) ∙ ap (λ (x : ℕ). d * x) (pow-suc 2 (s - 1)) ∙ sym (mul_assoc d (2 ^ (s - 1)) 2) in
+    let two : d * 2 ^ s ≡ m * 2 = ap (λ (x : ℕ). d * 2 ^ x) (one_back s l) ∙ ap (λ (x : ℕ). d * x) (pow-suc 2 (s - 1)) ∙ sym (mul_assoc d (2 ^ (s - 1)) 2) in
     let b = bounds (d * 2 ^ s) m two t.1 t.2 in
     subst (λ (x : ℕ). Normalised n x (e + 64 - s)) (sym (mod-eq_of_lt b.2))
     (record {
@@ -34,8 +34,8 @@ normalised_some n d s e p q t =
       short = few e s (subst (λ (x : ℕ). x < 2 ^ 11) (sym q) (exponent_lt n)) l;
     })
   where
-    one-back : (s : ℕ) → 11 ≤ s → s ≡ suc (s - 1)
-    one-back s h = omega arith
+    one_back : (s : ℕ) → 11 ≤ s → s ≡ suc (s - 1)
+    one_back s h = omega arith
 
     two_back : (s : ℕ) → 11 ≤ s → s - 1 ≡ s - 3 + 2
     two_back s h = omega arith

@@ -75,8 +75,8 @@ module _ (m x b p o : ℕ) (P : Room x b p o) where
         join : (p : ℕ) → p ≤ 62 → 64 ≡ p + (64 - p)
         join p h = omega arith
 
-    pub magnitude-fits : field + t < 2 ^ 64
-    magnitude-fits = go field ((64 + x - (b + p)) * 2 ^ (p - 1)) t (closest m (2 ^ (64 - p))) field_is e field_lt digits_le
+    pub magnitude_fits : field + t < 2 ^ 64
+    magnitude_fits = go field ((64 + x - (b + p)) * 2 ^ (p - 1)) t (closest m (2 ^ (64 - p))) field_is e field_lt digits_le
       where
         go : (a b c d : ℕ) → a ≡ b → c ≡ d → b < 2 ^ 63 → d ≤ 2 ^ 62 → a + c < 2 ^ 64
         go a b c d p q h k = omega arith
@@ -84,8 +84,8 @@ module _ (m x b p o : ℕ) (P : Room x b p o) where
     is : packed p o m x b ≡ min (field + t) cap
     is = high_is g ∙ ap (λ (y : ℕ). min (y + closest m (2 ^ (64 - p))) (o * 2 ^ (p - 1))) (sym field_is) ∙ ap (λ (y : ℕ). min (field + y) (o * 2 ^ (p - 1))) (sym e) ∙ ap (λ (y : ℕ). min (field + t) y) (sym cap_is)
 
-    pub normal-packed : field + t < cap → field + t ≡ packed p o m x b
-    normal-packed k = sym (is ∙ min-eq_left (le_of_lt k))
+    pub normal_packed : field + t < cap → field + t ≡ packed p o m x b
+    normal_packed k = sym (is ∙ min-eq_left (le_of_lt k))
 
-    pub normal-overflows : cap ≤ field + t → cap ≡ packed p o m x b
-    normal-overflows k = sym (is ∙ min-eq_right k)
+    pub normal_overflows : cap ≤ field + t → cap ≡ packed p o m x b
+    normal_overflows k = sym (is ∙ min-eq_right k)

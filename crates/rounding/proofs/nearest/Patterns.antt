@@ -53,10 +53,10 @@ to_bits_units f s q k = go (ltb (q * 2 ^ k) (overflow f))
 
 -- ---- the field and the digits are one number
 twice_hid : (f : Format) → 2 ^ prec f ≡ 2 * hid f
-twice_hid f = ap (λ (x : ℕ). 2 ^ x) (suc-pred (prec f) (two f)) ∙ pow-succ' 2 (prec f - 1)
+twice_hid f = ap (λ (x : ℕ). 2 ^ x) (suc_pred (prec f) (two f)) ∙ pow-succ' 2 (prec f - 1)
   where
-    suc-pred : (p : ℕ) → 2 ≤ p → p ≡ suc (p - 1)
-    suc-pred p h = omega arith
+    suc_pred : (p : ℕ) → 2 ≤ p → p ≡ suc (p - 1)
+    suc_pred p h = omega arith
 
 by_test : (t : Bool) (a b c : ℕ) → (T t → a ≡ c) → (T (not t) → b ≡ c) → cond t a b ≡ c
 by_test true a b c h k = h tt
@@ -131,11 +131,11 @@ module _ (f : Format) where
       is : fields_of f q ≡ 0 * h + q
       is = ap (λ (y : ℕ). y * h + q / 2 ^ y) (none (size q) p (size-le q (p - 1) l)) ∙ ap (λ (y : ℕ). 0 * h + y) (div-one q)
 
-      one-le : (e : ℕ) → 1 ≤ 2 * e + 1
-      one-le e = omega arith
+      one_le : (e : ℕ) → 1 ≤ 2 * e + 1
+      one_le e = omega arith
 
       once : 1 * h ≤ ones f * h
-      once = mul-le-mul_right h (one-le (emax f))
+      once = mul-le-mul_right h (one_le (emax f))
 
       plain : (h q o : ℕ) → q < h → 1 * h ≤ o → 0 * h + q ≤ o
       plain h q o a b = omega arith
@@ -155,8 +155,8 @@ module _ (f : Format) where
           tidy : (x h : ℕ) → x + h + h ≡ x + 2 * h
           tidy x h = omega arith
 
-      under-two : (h w : ℕ) → 0 < h → w ≡ 2 * h → h < w
-      under-two h w a b = omega arith
+      under_two : (h w : ℕ) → 0 < h → w ≡ 2 * h → h < w
+      under_two h w a b = omega arith
 
       go : (q < h) ⊎ (h ≤ q) → (q ≡ 2 ^ p) ⊎ (q < 2 ^ p) → (k ≡ 0) ⊎ (h ≤ q) → magnitude_of f (q * 2 ^ k) ≡ min (k * h + q) (ones f * h)
       go (inl l) t (inl z) = subst (λ (y : ℕ). magnitude_of f (q * 2 ^ y) ≡ min (y * h + q) (ones f * h)) (sym z) (magnitude_subnormal q l)
@@ -164,7 +164,7 @@ module _ (f : Format) where
       go (inr g) (inr t) c = magnitude_normal q k g t
       go (inr g) (inl e) c =
           ap (λ (y : ℕ). magnitude_of f y) (ap (λ (y : ℕ). y * 2 ^ k) (e ∙ twice_hid f ∙ mul_comm 2 h) ∙ mul_assoc h 2 (2 ^ k) ∙ ap (λ (y : ℕ). h * y) (sym (pow-succ' 2 k)))
-          ∙ magnitude_normal h (suc k) (le_of_eq refl) (under-two h (2 ^ p) (pow_pos (p - 1)) (twice_hid f))
+          ∙ magnitude_normal h (suc k) (le_of_eq refl) (under_two h (2 ^ p) (pow_pos (p - 1)) (twice_hid f))
           ∙ ap (λ (y : ℕ). min y (ones f * h)) (one_more k h ∙ ap (λ (y : ℕ). k * h + y) (sym (twice_hid f) ∙ sym e))
 
 -- ---- what `round` keeps has no more than prec digits, but for a carry, and no fewer where digits are dropped

@@ -15,7 +15,7 @@ use Rattle.plan_rules.specs.declared.Reason.{Reason}
 use Rattle.plan_rules.specs.World.{detail_budget_exhausted, world}
 use Rattle.plan_rules.specs.Visit.{collapse_reason}
 use Rattle.plan_rules.specs.OnTape.{Given, query, add_load}
-use Rattle.try_member.proofs.MemberExits.{Placed, has_a_row, column-within, row_within, try_exhausted, try-culled, try-skipped, try-collapsed, try-opens}
+use Rattle.try_member.proofs.MemberExits.{Placed, has_a_row, column_within, row_within, try_exhausted, try_culled, try_skipped, try_collapsed, try_opens}
 use borrow.Author.Rules.{rules}
 use Rattle.try_member.proofs.try_member.Statement.{statement}
 use Rattle.try_member.proofs.try_member.Tie as tie
@@ -30,7 +30,7 @@ column_fits : tie.Need-overflow-cast-column
 unfolding grid_count
 column_fits c =
     let start = c.before.before.before in
-    Fits-lt (column-within start.args.i start.args.reference.grid.columns _ start.requires) (search rules)
+    Fits-lt (column_within start.args.i start.args.reference.grid.columns _ start.requires) (search rules)
 
 row_fits : tie.Need-overflow-cast-row
 unfolding grid_count
@@ -115,7 +115,7 @@ culled c =
     let asked = c.before.before in
     let e1 = asked.before in
     λ g on k m.
-    try-culled g on _ _ _ _ _ _ _ _ _ (placed (at_label e1)) (room e1 g) (sym asked.overlaps.ensures ∙ not-true _ c.before.if2.true) _ (c.count-culled-reference.ensures _ k m)
+    try_culled g on _ _ _ _ _ _ _ _ _ (placed (at_label e1)) (room e1 g) (sym asked.overlaps.ensures ∙ not-true _ c.before.if2.true) _ (c.count-culled-reference.ensures _ k m)
 
 skipped : tie.Need-returns-3
 skipped c =
@@ -123,7 +123,7 @@ skipped c =
     let e2 = in_view asked.before in
     let e1 = with_room e2 in
     λ g on k m.
-    try-skipped g on _ _ _ _ _ _ _ _ _ (placed (at_label e1)) (room e1 g) (seen e2) (asked_small asked ∙ c.before.if3.true) _ (λ degenerate b. c.count-skipped-member.ensures degenerate b _ k m)
+    try_skipped g on _ _ _ _ _ _ _ _ _ (placed (at_label e1)) (room e1 g) (seen e2) (asked_small asked ∙ c.before.if3.true) _ (λ degenerate b. c.count-skipped-member.ensures degenerate b _ k m)
 
 collapsed : tie.Need-returns-4
 collapsed c =
@@ -135,7 +135,7 @@ collapsed c =
     let e1 = with_room e2 in
     let a = (start (at_label e1)).args in
     λ g on k m.
-    try-collapsed g on _ _ _ _ _ _ _ _ _ (placed (at_label e1)) (room e1 g) (seen e2) (asked_small e3.before ∙ e3.if3.false) (asked_collapses asked ∙ reasoned.before.before.if4.true) _
+    try_collapsed g on _ _ _ _ _ _ _ _ _ (placed (at_label e1)) (room e1 g) (seen e2) (asked_small e3.before ∙ e3.if3.false) (asked_collapses asked ∙ reasoned.before.before.if4.true) _
     (added.add-load2.ensures k m
     ∙ ap (λ (y : Reason). add_load y (at_label e1).label.result (at_label e1).before.transform-bbox.result (world a.plan a.out.now k m))
     (reasoned.collapse-reason.ensures ∙ ap collapse_reason (tested asked.before)))
@@ -147,7 +147,7 @@ opens c =
     let e2 = in_view (large_size asked.before) in
     let e1 = with_room e2 in
     λ g on k m.
-    try-opens g on _ _ _ _ _ _ _ _ _ (placed (at_label e1)) (room e1 g) (seen e2) (asked_small e3.before ∙ e3.if3.false) (asked_collapses asked ∙ c.if4.false)
+    try_opens g on _ _ _ _ _ _ _ _ _ (placed (at_label e1)) (room e1 g) (seen e2) (asked_small e3.before ∙ e3.if3.false) (asked_collapses asked ∙ c.if4.false)
 
 pub try_member_spec : {M : Type 1} → statement M
 try_member_spec =

@@ -8,7 +8,7 @@ use native.Mathlib.Omega.{arith}
 use borrow.Author.Rules.{rules}
 use lib.ListN.{length}
 use Rattle.walk.specs.Find.{find, find_in}
-use Rattle.walk.proofs.Finding.{find_from, find_start, find_beyond, find_next, find_other, find_end, find_here, find-on, find-stop, find_past}
+use Rattle.walk.proofs.Finding.{find_from, find_start, find_beyond, find_next, find_other, find_end, find_here, find_on, find_stop, find_past}
 use Rattle.walk.specs.declared.Found.{Found}
 use Rattle.walk.proofs.find.Statement.{statement}
 use Rattle.walk.proofs.find.Tie as tie
@@ -50,7 +50,7 @@ returns_3 c =
     let j = c.before.before in
     let i = j.before.before in
     sym (sym i.before.loop.invariant
-    ∙ find-stop _ _ _ _ i.loop-test.true _ (passed j) (omega (arith, c.before.u32-at.ensures)))
+    ∙ find_stop _ _ _ _ i.loop-test.true _ (passed j) (omega (arith, c.before.u32-at.ensures)))
 
 returns_4 : tie.Need-returns-4 invariant_loop decreases_loop
 returns_4 c =
@@ -71,7 +71,7 @@ loop_again c =
     let j = c.before.before.before in
     let i = j.before.before in
     rw c.before.before.u32-at.ensures
-    (sym (find-on _ _ _ _ i.loop-test.true _ (passed j) (omega (arith, c.before.before.u32-at.ensures)))
+    (sym (find_on _ _ _ _ i.loop-test.true _ (passed j) (omega (arith, c.before.before.u32-at.ensures)))
     ∙ i.before.loop.invariant)
 
 returns_5 : tie.Need-returns-5 invariant_loop decreases_loop

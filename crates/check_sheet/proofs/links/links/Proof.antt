@@ -8,7 +8,7 @@ use borrow.Author.Rules.{rules}
 use lib.ListN.{length}
 use Rattle.walk.specs.Offsets.{length_at}
 use Rattle.check_record.specs.Record.{Right}
-use Rattle.check_sheet.proofs.Remaining.{Remaining, all_remain, none_remain, remains-right, asked-passed, other-passed, asked-refused}
+use Rattle.check_sheet.proofs.Remaining.{Remaining, all_remain, none_remain, remains_right, asked_passed, other_passed, asked_refused}
 use Rattle.check_sheet.proofs.links.links.Statement.{statement}
 use Rattle.check_sheet.proofs.links.links.Tie as tie
 
@@ -20,7 +20,7 @@ decreases_loop s c at₀ own₀ to-ask₀ at own to-ask = length s - at
 
 -- the record at hand is right
 right : (c : tie.In-loop invariant_loop decreases_loop) → Right c.before.before.before.before.before.args.s.now c.before.loop.at
-right c = remains-right _ _ _ _ _ c.before.loop.invariant (omega (arith, c.loop-test.true))
+right c = remains_right _ _ _ _ _ c.before.loop.invariant (omega (arith, c.loop-test.true))
 
 loop_holds : tie.Need-loop-init invariant_loop decreases_loop
 loop_holds c = let start = c.before.before.before in all_remain _ _ start.requires.0 start.requires.1.0 start.requires.1.1
@@ -42,7 +42,7 @@ tally_requires c κs =
 returns : tie.Need-returns invariant_loop decreases_loop
 returns c =
     let i = c.before.before.before.before in
-    asked-refused _ _ _ _ _ i.before.loop.invariant (omega (arith, i.loop-test.true)) (sym c.before.link-ok.ensures ∙ c.if2.false)
+    asked_refused _ _ _ _ _ i.before.loop.invariant (omega (arith, i.loop-test.true)) (sym c.before.link-ok.ensures ∙ c.if2.false)
 
 next_within_requires : tie.Need-next-within-requires invariant_loop decreases_loop
 next_within_requires c κs = let i = c.before.before in (i.before.before.before.before.before.requires.0, (right i).whole)
@@ -61,8 +61,8 @@ joined c =
     ⊎_elim
     (λ w.
     rw (w.4, w.5, w.3.ensures, kind)
-    (asked-passed _ _ _ _ _ l.invariant (omega (arith, i.loop-test.true)) (rw kind at w.0.taken) (sym w.1.ensures ∙ w.2.taken)))
-    (λ w. rw (w.1, w.2) (other-passed _ _ _ _ _ l.invariant (omega (arith, i.loop-test.true)) (rw kind at w.0.left)))
+    (asked_passed _ _ _ _ _ l.invariant (omega (arith, i.loop-test.true)) (rw kind at w.0.taken) (sym w.1.ensures ∙ w.2.taken)))
+    (λ w. rw (w.1, w.2) (other_passed _ _ _ _ _ l.invariant (omega (arith, i.loop-test.true)) (rw kind at w.0.left)))
     c.if1.branch
 
 loop_again : tie.Need-loop-preserved invariant_loop decreases_loop

@@ -6,7 +6,7 @@ use native.Mathlib.Nat.{le_of_lt}
 use lib.Dec.{T, ltb→lt, nltb→le}
 use borrow.Author.Rules.{rules}
 use Rattle.fused.specs.TwoWords.{words, wide}
-use Rattle.fused.proofs.multiply_add.Rounding.{shifted_lt, sum_of_alike, difference_reversed, difference-cancels, difference-leads, upper_lt}
+use Rattle.fused.proofs.multiply_add.Rounding.{shifted_lt, sum_of_alike, difference_reversed, difference_cancels, difference_leads, upper_lt}
 use Rattle.fused.proofs.wide.Shifts.{words_some, words_none}
 use Rattle.fused.proofs.multiply_add.aligned_sum.Statement.{statement}
 use Rattle.fused.proofs.multiply_add.aligned_sum.Tie as tie
@@ -56,7 +56,7 @@ returns_3 c =
     let l = a.before.before in
     let J = l.before.before in
     let S = J.before in
-    difference-cancels S.args.s S.args.t (wide J.shift-to-odd.result) S.args.d S.requires.0 S.requires.1 S.requires.2 J.shift-to-odd.ensures l.before.if1.false (more l a.before.if2.false) (wide a.subtract2.result) a.subtract2.ensures (words_none a.subtract2.result.hi a.subtract2.result.lo c.if3.true)
+    difference_cancels S.args.s S.args.t (wide J.shift-to-odd.result) S.args.d S.requires.0 S.requires.1 S.requires.2 J.shift-to-odd.ensures l.before.if1.false (more l a.before.if2.false) (wide a.subtract2.result) a.subtract2.ensures (words_none a.subtract2.result.hi a.subtract2.result.lo c.if3.true)
 
 returns_4 : tie.Need-returns-4
 returns_4 c =
@@ -64,7 +64,7 @@ returns_4 c =
     let l = a.before.before in
     let J = l.before.before in
     let S = J.before in
-    difference-leads S.args.s S.args.t (wide J.shift-to-odd.result) S.args.d S.requires.0 S.requires.1 S.requires.2 J.shift-to-odd.ensures l.before.if1.false (more l a.before.if2.false) (wide a.subtract2.result) a.subtract2.ensures (words_some a.subtract2.result.hi a.subtract2.result.lo c.before.if3.false) c.round-wide3.result c.round-wide3.ensures
+    difference_leads S.args.s S.args.t (wide J.shift-to-odd.result) S.args.d S.requires.0 S.requires.1 S.requires.2 J.shift-to-odd.ensures l.before.if1.false (more l a.before.if2.false) (wide a.subtract2.result) a.subtract2.ensures (words_some a.subtract2.result.hi a.subtract2.result.lo c.before.if3.false) c.round-wide3.result c.round-wide3.ensures
 
 pub aligned_sum_spec : {M : Type 1} → statement M
 aligned_sum_spec =

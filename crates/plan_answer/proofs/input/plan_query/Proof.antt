@@ -5,7 +5,7 @@ use native.Mathlib.Omega.{arith}
 use lib.Seq.{length-take-le}
 use borrow.Author.Rules.{rules}
 use Rattle.plan_text.proofs.TapeLines.{from_here}
-use Rattle.plan_answer.proofs.Replies.{tape-reply, tape-within, refusal-reply, no_room_reply}
+use Rattle.plan_answer.proofs.Replies.{tape_reply, tape_within, refusal_reply, no_room_reply}
 use Rattle.plan_answer.proofs.input.plan_query.Statement.{statement}
 use Rattle.plan_answer.proofs.input.plan_query.Tie as tie
 
@@ -19,8 +19,8 @@ planned c =
     let opened = rw (from_here a.input.now a.query.sheet) at at-plan.plan-opened.ensures.1 in
     let call = rw (from_here a.input.now a.query.sheet) at at-plan.plan-opened.ensures.0 in
     let is = c.before.length.given.1 in (
-      tape-reply a.input.now a.query a.finder.now a.hidden.now a.tape.now a.counts.now a.marks.now _ opened call is,
-      tape-within a.input.now a.query a.finder.now a.hidden.now a.tape.now a.counts.now a.marks.now _ opened call is,
+      tape_reply a.input.now a.query a.finder.now a.hidden.now a.tape.now a.counts.now a.marks.now _ opened call is,
+      tape_within a.input.now a.query a.finder.now a.hidden.now a.tape.now a.counts.now a.marks.now _ opened call is,
     )
 
 refused : tie.Need-returns-2
@@ -29,7 +29,7 @@ refused c =
     let a = at-plan.before.before.before.before.before.before.before.before.before.before.before.before.before.before.args in
     let opened = rw (from_here a.input.now a.query.sheet) at at-plan.plan-opened.ensures.1 in
     let call = rw (from_here a.input.now a.query.sheet) at at-plan.plan-opened.ensures.0 in
-    (refusal-reply a.input.now a.query a.finder.now a.hidden.now a.tape.now a.counts.now a.marks.now _ opened call c.before.number.given.1, omega arith)
+    (refusal_reply a.input.now a.query a.finder.now a.hidden.now a.tape.now a.counts.now a.marks.now _ opened call c.before.number.given.1, omega arith)
 
 no_room : tie.Need-returns-3
 no_room c =

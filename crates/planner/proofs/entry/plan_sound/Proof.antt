@@ -7,7 +7,7 @@ use Rattle.plan_rules.specs.Limits.{max_scene_objects}
 use Rattle.plan_rules.specs.OnTape.{given}
 use Rattle.plan_rules.proofs.OutcomeTheorem.{query_refused, query_passed}
 use Rattle.check_query.proofs.Lent.{counts_lent, marks_lent}
-use Rattle.planner.proofs.Delivered.{sweep-delivered}
+use Rattle.planner.proofs.Delivered.{sweep_delivered}
 use borrow.Author.Rules.{rules}
 use Rattle.planner.proofs.entry.plan_sound.Statement.{statement}
 use Rattle.planner.proofs.entry.plan_sound.Tie as tie
@@ -51,7 +51,7 @@ planned c =
     let a = start.args in
     let counts = counts_lent _ _ _ _ _ _ asked.query-refusal.ensures else1.if1.false counts-named.counts-named.ensures in
     let marks = marks_lent _ _ _ _ _ _ asked.query-refusal.ensures else1.if1.false marks-named.marks-named.ensures in
-    sweep-delivered (given (record { options = a.query; object_limit = max_scene_objects; counts = a.kinds }) a.sheet a.finder a.hidden) _ _ _ _ _ counts-named.counts-named.ensures marks-named.marks-named.ensures counts marks
+    sweep_delivered (given (record { options = a.query; object_limit = max_scene_objects; counts = a.kinds }) a.sheet a.finder a.hidden) _ _ _ _ _ counts-named.counts-named.ensures marks-named.marks-named.ensures counts marks
     (omega (arith, start.well-formed)) _ _ _ _ at-visit-clean.visit-clean.ensures at-finish.finish.result _ at-finish.finish.ensures
     ∙ sym (query_passed _ _ _ _ _ _ _ (sym asked.query-refusal.ensures ∙ else1.if1.false))
 

@@ -7,7 +7,7 @@ use Rattle.check_sheet.specs.declared.Checked.TheVariants.{Sound}
 use Rattle.check_sheet.specs.Check.{check_sheet}
 use Rattle.check_sheet.proofs.Valid.{sound_valid, sound_counts}
 use Rattle.check_sheet.proofs.Verdict.{checked_as}
-use Rattle.planner.proofs.Finders.{with_refused, with-foreign, own-seen}
+use Rattle.planner.proofs.Finders.{with_refused, with_foreign, own_seen}
 use Rattle.planner.proofs.entry.plan_with_finder.Statement.{statement}
 use Rattle.planner.proofs.entry.plan_with_finder.Tie as tie
 
@@ -26,7 +26,7 @@ foreign c =
     let at-if1 = at-turn-away.before.before.before.before in
     let at-belongs = at-if1.before in
     at-turn-away.turn-away.ensures
-    ∙ sym (with-foreign _ _ _ _ _ _ _ (passed at-belongs.before) (sym at-belongs.belongs.ensures ∙ not-true _ at-if1.if1.true))
+    ∙ sym (with_foreign _ _ _ _ _ _ _ (passed at-belongs.before) (sym at-belongs.belongs.ensures ∙ not-true _ at-if1.if1.true))
 
 refused : tie.Need-returns-2
 refused c =
@@ -40,7 +40,7 @@ own c =
     let at-if1 = at-plan-sound.before.before.before.before in
     let at-belongs = at-if1.before in
     at-plan-sound.plan-sound.ensures
-    ∙ own-seen _ _ _ _ _ _ _ (passed at-belongs.before) (sym at-belongs.belongs.ensures ∙ not-false _ at-if1.if1.false)
+    ∙ own_seen _ _ _ _ _ _ _ (passed at-belongs.before) (sym at-belongs.belongs.ensures ∙ not-false _ at-if1.if1.false)
 
 pub plan_with_finder_spec : {M : Type 1} → statement M
 plan_with_finder_spec =

@@ -12,7 +12,7 @@ use Rattle.look_up.proofs.Looking.{item_looked}
 use Rattle.plan_rules.specs.World.{world}
 use Rattle.plan_rules.specs.declared.Reason.TheVariants.{DepthZero}
 use Rattle.plan_rules.specs.OnTape.{Given, given_bytes, add_load}
-use Rattle.plan_rules.proofs.Paths.Plans.{root_missing, root-unboxed, root-outside, root-loaded}
+use Rattle.plan_rules.proofs.Paths.Plans.{root_missing, root_unboxed, root_outside, root_loaded}
 use borrow.Author.Rules.{rules}
 use Rattle.planner.proofs.root.load_root.Statement.{statement}
 use Rattle.planner.proofs.root.load_root.Tie as tie
@@ -33,7 +33,7 @@ unboxed c =
     let at-look-up = at_at.before.before in
     let there = item_looked cells _ _ _ _ at-look-up.look_up.ensures at_at.at.given.1 in
     let box = sym (ap (λ (r : PreparedCell). r.bbox) at-cell-at.cell_at.ensures) ∙ c.enum-told2.given.1 in
-    λ hidden k m. sym (root-unboxed (lent_to at-look-up hidden) _ there box)
+    λ hidden k m. sym (root_unboxed (lent_to at-look-up hidden) _ there box)
 
 outside : tie.Need-returns-3
 unfolding cell_record_at
@@ -48,7 +48,7 @@ outside c =
     let there = item_looked cells _ _ _ _ at-look-up.look_up.ensures at_at.at.given.1 in
     let box = sym (ap (λ (r : PreparedCell). r.bbox) at-cell-at.cell_at.ensures) ∙ at_Bounds.bounds.given.1 in
     let unseen = sym (ap (λ (b : WorldBBox). overlaps b a.fixed.options.view) at_new.new.ensures) ∙ sym at-overlaps.overlaps.ensures ∙ not-true _ c.if1.true in
-    λ hidden k m. sym (root-outside (lent_to at-look-up hidden) _ there box unseen)
+    λ hidden k m. sym (root_outside (lent_to at-look-up hidden) _ there box unseen)
 
 loaded : tie.Need-returns-4
 unfolding cell_record_at
@@ -68,7 +68,7 @@ loaded c =
     λ hidden k m.
     at-add-load.add-load.ensures k m
     ∙ ap (λ (b : WorldBBox). add_load DepthZero a.fixed.options.root b (world a.plan a.out.now k m)) at_new.new.ensures
-    ∙ sym (root-loaded (lent_to at-look-up hidden) _ there box seen)
+    ∙ sym (root_loaded (lent_to at-look-up hidden) _ there box seen)
 
 pub load_root_spec : {M : Type 1} → statement M
 load_root_spec =

@@ -16,7 +16,7 @@ use Rattle.plan_rules.specs.World.{Query, hides, detail_budget_exhausted, World,
 use Rattle.plan_rules.specs.declared.Reason.{Reason}
 use Rattle.records.specs.Sources.{no_label}
 use Rattle.plan_rules.specs.OnTape.{Given, given, query, add_load}
-use Rattle.plan_rules.proofs.Paths.Pushes.{geometry-missing, geometry-hidden, geometry-culled, geometry-skipped, geometry-dense, geometry-exhausted, geometry-listed}
+use Rattle.plan_rules.proofs.Paths.Pushes.{geometry_missing, geometry_hidden, geometry_culled, geometry_skipped, geometry_dense, geometry_exhausted, geometry_listed}
 use borrow.Author.Rules.{rules}
 use Rattle.pushes.proofs.items.push_geometry.Statement.{statement}
 use Rattle.pushes.proofs.items.push_geometry.Tie as tie
@@ -106,22 +106,22 @@ proxied c y k m = ap (λ (b : WorldBBox). add_load y no_label b (entered (seen_b
 missing : tie.Need-returns
 missing c =
     let a = c.before.before.before.before.before.before.before.args in
-    λ k m. sym (geometry-missing (given a.fixed a.sheet a.finder a.hidden) _ _ _ (item_looked geometries _ _ _ _ c.before.before.look_up.ensures c.enum_told.given.1))
+    λ k m. sym (geometry_missing (given a.fixed a.sheet a.finder a.hidden) _ _ _ (item_looked geometries _ _ _ _ c.before.before.look_up.ensures c.enum_told.given.1))
 
 hidden : tie.Need-returns-2
-hidden c = λ k m. sym (geometry-hidden (lent_to c.before.before) _ _ _ (there c.before.before) (asked_hidden c.before ∙ c.if1.true))
+hidden c = λ k m. sym (geometry_hidden (lent_to c.before.before) _ _ _ (there c.before.before) (asked_hidden c.before ∙ c.if1.true))
 
 culled : tie.Need-returns-3
 culled c =
     let asked = c.before.before in
     let e1 = asked.before.before in
-    λ k m. c.count-culled-batch.ensures _ k m ∙ sym (geometry-culled (lent_to (shown_batch e1)) _ _ _ (there (shown_batch e1)) (shown e1) (asked_seen asked ∙ not-true _ c.before.if2.true))
+    λ k m. c.count-culled-batch.ensures _ k m ∙ sym (geometry_culled (lent_to (shown_batch e1)) _ _ _ (there (shown_batch e1)) (shown e1) (asked_seen asked ∙ not-true _ c.before.if2.true))
 
 skipped : tie.Need-returns-4
 skipped c =
     let asked = c.before.before in
     let e2 = asked.before.before in
-    λ k m. c.count-skipped-batch.ensures _ _ k m ∙ sym (geometry-skipped (lent_to (seen_batch e2)) _ _ _ (there (seen_batch e2)) (shown e2.before.before.before) (seen e2) (asked_small asked ∙ c.before.if3.true))
+    λ k m. c.count-skipped-batch.ensures _ _ k m ∙ sym (geometry_skipped (lent_to (seen_batch e2)) _ _ _ (there (seen_batch e2)) (shown e2.before.before.before) (seen e2) (asked_small asked ∙ c.before.if3.true))
 
 dense : tie.Need-returns-5
 dense c =
@@ -131,7 +131,7 @@ dense c =
     let e2 = in_view e3 in
     λ k m.
     added.add-load.ensures k m ∙ proxied e2 _ k m
-    ∙ sym (geometry-dense (lent_to (seen_batch e2)) _ _ _ (there (seen_batch e2)) (shown e2.before.before.before) (seen e2) (large e3) (asked_dense asked ∙ added.before.before.if4.true))
+    ∙ sym (geometry_dense (lent_to (seen_batch e2)) _ _ _ (there (seen_batch e2)) (shown e2.before.before.before) (seen e2) (large e3) (asked_dense asked ∙ added.before.before.if4.true))
 
 exhausted : tie.Need-returns-6
 exhausted c =
@@ -142,7 +142,7 @@ exhausted c =
     let e2 = in_view e3 in
     λ k m.
     added.add-load2.ensures k m ∙ proxied e2 _ k m
-    ∙ sym (geometry-exhausted (lent_to (seen_batch e2)) _ _ _ (there (seen_batch e2)) (shown e2.before.before.before) (seen e2) (large e3) (sparse e4) (asked_budget asked ∙ added.before.before.if5.true))
+    ∙ sym (geometry_exhausted (lent_to (seen_batch e2)) _ _ _ (there (seen_batch e2)) (shown e2.before.before.before) (seen e2) (large e3) (sparse e4) (asked_budget asked ∙ added.before.before.if5.true))
 
 listed : tie.Need-returns-7
 listed c =
@@ -153,7 +153,7 @@ listed c =
     let e2 = in_view e3 in
     λ k m.
     put.list-batch.ensures k m
-    ∙ sym (geometry-listed (lent_to (seen_batch e2)) _ _ _ (there (seen_batch e2)) (shown e2.before.before.before) (seen e2) (large e3) (sparse e4) (asked_budget asked ∙ put.before.before.if5.false))
+    ∙ sym (geometry_listed (lent_to (seen_batch e2)) _ _ _ (there (seen_batch e2)) (shown e2.before.before.before) (seen e2) (large e3) (sparse e4) (asked_budget asked ∙ put.before.before.if5.false))
 
 pub push_geometry_spec : {M : Type 1} → statement M
 push_geometry_spec =

@@ -11,7 +11,7 @@ use Rattle.abstract_sheet.specs.Sheet.{NodeRecord, node_record_at}
 use Rattle.plan_rules.specs.Event.{point}
 use Rattle.plan_rules.specs.World.{detail_budget_exhausted, world, go}
 use Rattle.plan_rules.specs.OnTape.{Given, query, say}
-use Rattle.plan_rules.proofs.Paths.Pushes.{point-outside, point-exhausted, point-listed}
+use Rattle.plan_rules.proofs.Paths.Pushes.{point_outside, point_exhausted, point_listed}
 use borrow.Author.Rules.{rules}
 use Rattle.pushes.proofs.items.push_point.Statement.{statement}
 use Rattle.pushes.proofs.items.push_point.Tie as tie
@@ -44,12 +44,12 @@ asked_budget c g = sym (c.detail-budget-exhausted.ensures g.hidden)
 -- ---- the ways out
 
 outside : tie.Need-returns
-outside c = λ g k m. sym (point-outside g _ (node c.before.before.before) _ _ (asked_inside c.before ∙ not-true _ c.if1.true))
+outside c = λ g k m. sym (point_outside g _ (node c.before.before.before) _ _ (asked_inside c.before ∙ not-true _ c.if1.true))
 
 exhausted : tie.Need-returns-2
 exhausted c =
     let e1 = c.before.before in
-    λ g k m. sym (point-exhausted g _ (node e1.before.before.before) _ _ (inside e1) (asked_budget c.before g ∙ c.if2.true))
+    λ g k m. sym (point_exhausted g _ (node e1.before.before.before) _ _ (inside e1) (asked_budget c.before g ∙ c.if2.true))
 
 listed : tie.Need-returns-3
 unfolding node_record_at
@@ -64,7 +64,7 @@ listed c =
     ap go
     (put.list-point.ensures k m
     ∙ ap₂ (λ (x : PreparedNode) (v : DVec2). say (point x.layer x.node_type v) (world a.plan a.out.now k m)) read.Node-at.ensures (placed e1.before.before))
-    ∙ sym (point-listed g _ (node x) _ _ (inside e1) (asked_budget asked g ∙ read.before.if2.false))
+    ∙ sym (point_listed g _ (node x) _ _ (inside e1) (asked_budget asked g ∙ read.before.if2.false))
 
 pub push_point_spec : {M : Type 1} → statement M
 push_point_spec =

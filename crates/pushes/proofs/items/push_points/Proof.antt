@@ -11,7 +11,7 @@ use Rattle.records.specs.declared.PreparedNode.{PreparedNode}
 use Rattle.abstract_sheet.specs.Sheet.{node_record_at}
 use Rattle.plan_rules.specs.World.{world, flow, each}
 use Rattle.plan_rules.specs.OnTape.{Given, push_point, push_points}
-use Rattle.plan_rules.proofs.Paths.Loops.{each-go, each-halt, each-done}
+use Rattle.plan_rules.proofs.Paths.Loops.{each_go, each_halt, each_done}
 use Rattle.plan_rules.proofs.Paths.Loops.{each_from}
 use borrow.Author.Rules.{rules}
 use Rattle.pushes.proofs.items.push_points.Statement.{statement}
@@ -37,13 +37,13 @@ halts c =
     let at-loop = at-loop-test.before in
     λ g k m. sym
     (sym (at-loop.loop.invariant.2 g k m)
-    ∙ each-halt _ _ at-loop.loop.i _ _ at-loop-test.loop-test.true
+    ∙ each_halt _ _ at-loop.loop.i _ _ at-loop-test.loop-test.true
     (sym (at-push-point.push-point.ensures g k m) ∙ (ap (λ (b : Bool). flow b (world at-push-point.push-point.result.plan at-push-point.push-point.new.1.1.0 k m)) (not-true at-push-point.push-point.result.whole c.if1.true))))
 
 done : tie.Need-returns-2 invariant_loop decreases_loop
 done c =
     let at-loop = c.before in
-    λ g k m. sym (sym (at-loop.loop.invariant.2 g k m) ∙ each-done _ _ at-loop.loop.i _ c.loop-test.false)
+    λ g k m. sym (sym (at-loop.loop.invariant.2 g k m) ∙ each_done _ _ at-loop.loop.i _ c.loop-test.false)
 
 next_fits : tie.Need-overflow-add-i invariant_loop decreases_loop
 next_fits c =
@@ -59,7 +59,7 @@ loop_again c =
       omega arith,
       search (rules, at-loop.loop.invariant.1, at-push-point.push-point.auto.1.1.0),
       λ g k m.
-          sym (each-go _ _ at-loop.loop.i _ _ at-loop-test.loop-test.true
+          sym (each_go _ _ at-loop.loop.i _ _ at-loop-test.loop-test.true
           (sym (at-push-point.push-point.ensures g k m) ∙ (ap (λ (b : Bool). flow b (world at-push-point.push-point.result.plan at-push-point.push-point.new.1.1.0 k m)) (not-false at-push-point.push-point.result.whole c.if1.false))))
           ∙ at-loop.loop.invariant.2 g k m,
     )

@@ -11,7 +11,7 @@ use Rattle.look_up.proofs.Looking.{item_looked}
 use Rattle.plan_rules.specs.Event.{text}
 use Rattle.plan_rules.specs.World.{hides, world}
 use Rattle.plan_rules.specs.OnTape.{Given, given, query, say}
-use Rattle.plan_rules.proofs.Paths.Pushes.{text-missing, text-hidden, text-outside, text-listed}
+use Rattle.plan_rules.proofs.Paths.Pushes.{text_missing, text_hidden, text_outside, text_listed}
 use borrow.Author.Rules.{rules}
 use Rattle.pushes.proofs.items.push_text.Statement.{statement}
 use Rattle.pushes.proofs.items.push_text.Tie as tie
@@ -48,15 +48,15 @@ asked_inside c = sym (c.point-in-bbox.ensures ∙ ap (λ (v : DVec2). point_in_b
 missing : tie.Need-returns
 missing c =
     let a = c.before.before.before.before.before.before.before.args in
-    λ k m. sym (text-missing (given a.fixed a.sheet a.finder a.hidden) _ _ _ (item_looked texts _ _ _ _ c.before.before.look_up.ensures c.enum_told.given.1))
+    λ k m. sym (text_missing (given a.fixed a.sheet a.finder a.hidden) _ _ _ (item_looked texts _ _ _ _ c.before.before.look_up.ensures c.enum_told.given.1))
 
 hidden : tie.Need-returns-2
-hidden c = λ k m. sym (text-hidden (lent_to c.before.before) _ _ _ (there c.before.before) (asked_hidden c.before ∙ c.if1.true))
+hidden c = λ k m. sym (text_hidden (lent_to c.before.before) _ _ _ (there c.before.before) (asked_hidden c.before ∙ c.if1.true))
 
 outside : tie.Need-returns-3
 outside c =
     let e1 = c.before.before.before in
-    λ k m. sym (text-outside (lent_to (text_read e1)) _ _ _ (there (text_read e1)) (asked_hidden e1.before ∙ e1.if1.false) (asked_inside c.before ∙ not-true _ c.if2.true))
+    λ k m. sym (text_outside (lent_to (text_read e1)) _ _ _ (there (text_read e1)) (asked_hidden e1.before ∙ e1.if1.false) (asked_inside c.before ∙ not-true _ c.if2.true))
 
 listed : tie.Need-returns-4
 listed c =
@@ -67,7 +67,7 @@ listed c =
     λ k m.
     put.list-text.ensures k m
     ∙ ap (λ (v : DVec2). say (text a.number v) (world a.plan a.out.now k m)) (placed e2.before.before)
-    ∙ sym (text-listed (lent_to (text_read e1)) _ _ _ (there (text_read e1)) (asked_hidden e1.before ∙ e1.if1.false) (asked_inside e2.before ∙ not-false _ e2.if2.false))
+    ∙ sym (text_listed (lent_to (text_read e1)) _ _ _ (there (text_read e1)) (asked_hidden e1.before ∙ e1.if1.false) (asked_inside e2.before ∙ not-false _ e2.if2.false))
 
 pub push_text_spec : {M : Type 1} → statement M
 push_text_spec =

@@ -2,7 +2,7 @@
 use Rattle.std.proofs.Common.{◌≡◌, sym, ◌∙◌, arith, rules}
 use Rattle.rounding.specs.Fields.{exponent_field_of}
 use Rattle.rounding.proofs.decode.Reading.{exponent_lt}
-use Rattle.rounding.proofs.convert.Narrowing.{narrow_infinite, narrow-zero, narrow-encodes}
+use Rattle.rounding.proofs.convert.Narrowing.{narrow_infinite, narrow_zero, narrow_encodes}
 use Rattle.rounding.proofs.convert.narrow_pattern.Statement.{statement}
 use Rattle.rounding.proofs.convert.narrow_pattern.Tie as tie
 
@@ -18,7 +18,7 @@ returns c =
 returns_2 : tie.Need-returns-2
 returns_2 c =
     let s = c.before.before.before.before in
-    narrow-zero s.args.n s.ranges.n.fits (finite c.before.before) (sym c.before.significand-of.ensures ∙ c.if2.true)
+    narrow_zero s.args.n s.ranges.n.fits (finite c.before.before) (sym c.before.significand-of.ensures ∙ c.if2.true)
 
 pack_requires : tie.Need-pack-requires
 pack_requires c κs = omega (arith, exponent_lt c.before.before.before.before.before.before.args.n)
@@ -29,7 +29,7 @@ returns_3 c =
     let t = e.before in
     let g = t.before.before in
     let s = g.before.before.before in
-    narrow-encodes s.args.n s.ranges.n.fits (finite g.before) g.significand-of.result e.exponent-of.result t.leading_zeros.result c.pack.result
+    narrow_encodes s.args.n s.ranges.n.fits (finite g.before) g.significand-of.result e.exponent-of.result t.leading_zeros.result c.pack.result
     g.significand-of.ensures e.exponent-of.ensures t.leading_zeros.ensures c.pack.ensures
 
 pub narrow_pattern_spec : {M : Type 1} → statement M

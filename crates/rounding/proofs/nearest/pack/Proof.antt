@@ -1,6 +1,6 @@
 -- `rounding::nearest::pack` meets its contract. Assumes nothing.
 use Rattle.std.proofs.Common.{rules}
-use Rattle.rounding.proofs.nearest.Packing.{small_packed, small_overflows, past_infinity, magnitude-fits, normal_packed, normal-overflows}
+use Rattle.rounding.proofs.nearest.Packing.{small_packed, small_overflows, past_infinity, magnitude_fits, normal_packed, normal_overflows}
 use Rattle.rounding.proofs.nearest.pack.Statement.{statement}
 use Rattle.rounding.proofs.nearest.pack.Tie as tie
 
@@ -12,7 +12,7 @@ returns c =
 add_magnitude : tie.Need-overflow-add-magnitude
 add_magnitude c =
     let s = c.before.before.before in
-    record { fits = magnitude-fits s.args.m s.args.up s.args.down s.args.precision s.args.ones s.requires c.before.before.if1.false c.before.if3.false c.shift-to-nearest2.result c.shift-to-nearest2.ensures s.ranges.m.fits }
+    record { fits = magnitude_fits s.args.m s.args.up s.args.down s.args.precision s.args.ones s.requires c.before.before.if1.false c.before.if3.false c.shift-to-nearest2.result c.shift-to-nearest2.ensures s.ranges.m.fits }
 
 returns_2 : tie.Need-returns-2
 returns_2 c =
@@ -32,7 +32,7 @@ returns_4 c =
 returns_5 : tie.Need-returns-5
 returns_5 c =
     let s = c.before.before.before.before in
-    normal-overflows s.args.m s.args.up s.args.down s.args.precision s.args.ones s.requires c.before.before.before.if1.false c.before.before.if3.false c.before.shift-to-nearest2.result c.before.shift-to-nearest2.ensures s.ranges.m.fits c.if4.false
+    normal_overflows s.args.m s.args.up s.args.down s.args.precision s.args.ones s.requires c.before.before.before.if1.false c.before.before.if3.false c.before.shift-to-nearest2.result c.before.shift-to-nearest2.ensures s.ranges.m.fits c.if4.false
 
 pub pack_spec : {M : Type 1} → statement M
 pack_spec =

@@ -7,7 +7,7 @@ use mir.Facts.{to_z-of_z}
 use borrow.Author.Rules.{rules}
 use Rattle.io.specs.Counts.{clamp_len}
 use Rattle.streams.specs.Moving.{unmoved_of}
-use Rattle.streams.proofs.Meanings.{moved_bytes, moved_nothing, moved-not}
+use Rattle.streams.proofs.Meanings.{moved_bytes, moved_nothing, moved_not}
 use Rattle.streams.proofs.moved.meaning.Statement.{statement}
 use Rattle.streams.proofs.moved.meaning.Tie as tie
 
@@ -29,7 +29,7 @@ below c =
     let counted = c.before.before.before in
     let start = counted.before.before in
     let a = start.args in
-    moved-not a.got a.error (length a.bytes.now) (counted.count.ensures.1 ∙ ap (λ (z : ℤ). clamp_len z (length a.bytes.now)) (to_z-of_z start.ranges.got)) c.before.before.if1.false c.before.if2.false
+    moved_not a.got a.error (length a.bytes.now) (counted.count.ensures.1 ∙ ap (λ (z : ℤ). clamp_len z (length a.bytes.now)) (to_z-of_z start.ranges.got)) c.before.before.if1.false c.before.if2.false
     (c.unmoved.ensures ∙ ap unmoved_of (to_z-of_z start.ranges.error))
 
 pub meaning_spec : {M : Type 1} → statement M

@@ -1,5 +1,5 @@
 -- `units::totals::source_units` meets its contract. Assumes nothing.
-use Rattle.units.proofs.Quotients.{share_of_none, share-below-one, share}
+use Rattle.units.proofs.Quotients.{share_of_none, share_below_one, share}
 use borrow.Author.Rules.{rules}
 use Rattle.units.proofs.totals.source_units.Statement.{statement}
 use Rattle.units.proofs.totals.source_units.Tie as tie
@@ -8,7 +8,7 @@ no_members : tie.Need-returns
 no_members c = share_of_none _ _ c.if1.true
 
 less_than_one : tie.Need-returns-2
-less_than_one c = share-below-one _ _ c.before.if1.false c.if2.true
+less_than_one c = share_below_one _ _ c.before.if1.false c.if2.true
 
 at_least_one : tie.Need-returns-3
 at_least_one c = share _ _ c.before.if1.false c.if2.false

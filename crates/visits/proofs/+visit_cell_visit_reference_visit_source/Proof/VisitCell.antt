@@ -11,7 +11,7 @@ use Rattle.plan_rules.specs.declared.ScenePlan.{ScenePlan}
 use Rattle.plan_rules.specs.World.{world, each, ending}
 use Rattle.plan_rules.specs.Scratch.{open_place}
 use Rattle.plan_rules.specs.OnTape.{Given, given, VisitReference, on_reference, visit_cell}
-use Rattle.plan_rules.proofs.Paths.Loops.{each_start, each-go, each-halt, each-done}
+use Rattle.plan_rules.proofs.Paths.Loops.{each_start, each_go, each_halt, each_done}
 use Rattle.visits.proofs.Cells
 use Rattle.visits.proofs.visit_cell.Reads as visit-cell
 use Rattle.visits.proofs.+visit_cell_visit_reference_visit_source.Lts-visit_cell as lts
@@ -119,7 +119,7 @@ module _ (t : ℕ) where
         visited.visit-reference.auto.1.1.1.1.0 ∙ after-loop.loop.invariant.1,
         visited.visit-reference.auto.1.1.1.1.1.0 ∙ after-loop.loop.invariant.2,
         visited.visit-reference.auto.1.1.1.1.1.1.0 ∙ after-loop.loop.invariant.3,
-        after-loop.loop.invariant.4 ∙ each-go _ _ after-loop.loop.i _ _ after-loop-test.loop-test.true
+        after-loop.loop.invariant.4 ∙ each_go _ _ after-loop.loop.i _ _ after-loop-test.loop-test.true
             (Cells.turn-goes a.sheet.now a.finder.now a.fixed a.hidden.now a.depth (open_cell after-loop) after-loop.loop.i (world after-loop.loop.next after-loop.loop.out after-loop.loop.counts after-loop.loop.marks)
             (world visited.visit-reference.result visited.visit-reference.new.1.1.1.1.0 visited.visit-reference.new.1.1.1.1.1.0 visited.visit-reference.new.1.1.1.1.1.1.0)
             read.cell-reference-at.result
@@ -171,7 +171,7 @@ module _ (t : ℕ) where
       let a = (entry after-loop).args in
       let boxed = world loaded.load-Cell.result loaded.load-Cell.new.0 after-loop.loop.counts after-loop.loop.marks in
       closed after-loop boxed.state boxed.out after-loop.loop.counts after-loop.loop.marks removed.stack-remove.new.0
-      (ap ending (each-halt _ _ after-loop.loop.i _ boxed after-loop-test.loop-test.true
+      (ap ending (each_halt _ _ after-loop.loop.i _ boxed after-loop-test.loop-test.true
       (Cells.turn-exhausted a.sheet.now a.finder.now a.fixed a.hidden.now a.depth (open_cell after-loop) after-loop.loop.i (world after-loop.loop.next after-loop.loop.out after-loop.loop.counts after-loop.loop.marks) boxed
       (sym (asked.detail-budget-exhausted.ensures a.hidden.now) ∙ after-if2.if2.true)
       (loaded.load-Cell.ensures after-loop.loop.counts after-loop.loop.marks))))
@@ -183,5 +183,5 @@ module _ (t : ℕ) where
       let after-loop-test = removed.before.before in
       let after-loop = after-loop-test.before in
       closed after-loop after-loop.loop.next after-loop.loop.out after-loop.loop.counts after-loop.loop.marks removed.stack-remove2.new.0
-      (ap ending (each-done _ _ after-loop.loop.i _ after-loop-test.loop-test.false))
+      (ap ending (each_done _ _ after-loop.loop.i _ after-loop-test.loop-test.false))
       removed.stack-remove2.ensures

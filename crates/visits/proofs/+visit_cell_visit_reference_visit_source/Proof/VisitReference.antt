@@ -10,10 +10,10 @@ use lib.ListN.{length}
 use Rattle.screen.specs.Screen.{collapses}
 use Rattle.plan_rules.specs.World.{world, Flow, go, halt, ending, each}
 use Rattle.plan_rules.specs.DrawUnits.{Units, reference_draw_units}
-use Rattle.plan_rules.specs.OnTape.{Given, given_bytes, given, Output, visitCountedReference, on_source, on_source_below, visit_reference, visit_source}
+use Rattle.plan_rules.specs.OnTape.{Given, given_bytes, given, Output, visit_counted_reference, on_source, on_source_below, visit_reference, visit_source}
 use Rattle.open_reference.specs.Left.{left_of_reference}
 use Rattle.try_member.specs.Left.{left_of_member}
-use Rattle.plan_rules.proofs.Paths.Loops.{each_start, each-go, each-halt, each-done}
+use Rattle.plan_rules.proofs.Paths.Loops.{each_start, each_go, each_halt, each_done}
 use Rattle.visits.proofs.References
 use Rattle.visits.proofs.visit_reference.Reads as visit-reference
 use Rattle.visits.proofs.+visit_cell_visit_reference_visit_source.Lts-visit_reference as lts
@@ -110,7 +110,7 @@ module _ (t : ℕ) where
   abbrev rest : Opened → Output
   rest c =
       let a = (entry c).args in
-      visitCountedReference (lent_to (entry c)) (on_source_below (lent_to (entry c)) a.depth) a.depth (read c).reference-at.result a.transform c.open-reference.result.source_bbox c.open-reference.result.world_bbox (units c) (reached c)
+      visit_counted_reference (lent_to (entry c)) (on_source_below (lent_to (entry c)) a.depth) a.depth (read c).reference-at.result a.transform c.open-reference.result.source_bbox c.open-reference.result.world_bbox (units c) (reached c)
 
   abbrev visit : Opened → Output
   visit c =
@@ -218,7 +218,7 @@ module _ (t : ℕ) where
   pub finished : lts.Need-returns-6 (visit_reference_claims t) (visit_reference_at t) visit-reference.Post Inv-loop μ_loop
   finished c =
       let after-loop = c.before in
-      sym (ap ending (each-done (turn after-loop) (count after-loop) after-loop.loop.i (here after-loop) c.loop-test.false)) ∙ left_to_do after-loop
+      sym (ap ending (each_done (turn after-loop) (count after-loop) after-loop.loop.i (here after-loop) c.loop-test.false)) ∙ left_to_do after-loop
 
   -- ---- a turn
 
@@ -254,7 +254,7 @@ module _ (t : ℕ) where
 
   -- a member that halts ends the visit
   halts : (c : Tried) (v : Output) → member c ≡ halt v → v ≡ visit (opened_at (head c))
-  halts c v e = sym (ap ending (each-halt (turn (head c)) (count (head c)) (head c).loop.i (here (head c)) v c.before.before.loop-test.true e)) ∙ left_to_do (head c)
+  halts c v e = sym (ap ending (each_halt (turn (head c)) (count (head c)) (head c).loop.i (here (head c)) v c.before.before.loop-test.true e)) ∙ left_to_do (head c)
 
   pub depth_is_left : lts.Need-overflow-sub-visit-source (visit_reference_claims t) (visit_reference_at t) visit-reference.Post Inv-loop μ_loop
   depth_is_left c = omega (arith, c.before.before.before.before.before.before.before.before.before.before.loop.invariant.1)
@@ -320,7 +320,7 @@ module _ (t : ℕ) where
 
   -- a member that goes on leaves the rest of the loop
   goes_on : (c : Tried) (v : Output) → member c ≡ go v → each (turn (head c)) (count (head c) - (head c).loop.i) (head c).loop.i (here (head c)) ≡ each (turn (head c)) (count (head c) - ((head c).loop.i + 1)) ((head c).loop.i + 1) v
-  goes_on c v e = each-go (turn (head c)) (count (head c)) (head c).loop.i (here (head c)) v c.before.before.loop-test.true e
+  goes_on c v e = each_go (turn (head c)) (count (head c)) (head c).loop.i (here (head c)) v c.before.before.loop-test.true e
 
   pub loop_turns : lts.Need-loop-preserved (visit_reference_claims t) (visit_reference_at t) visit-reference.Post Inv-loop μ_loop
   loop_turns c =
