@@ -12,7 +12,7 @@ mod links;
 mod scan;
 
 // How many records there are of each kind.
-#[derive(Drop)]
+#[derive(Clone, Copy)]
 pub struct Counts {
     pub geometries: u32,
     pub texts: u32,
@@ -22,7 +22,7 @@ pub struct Counts {
 }
 
 // A sound sheet with its counts, or the number and the offset of the first no.
-#[derive(Drop)]
+#[derive(Clone, Copy)]
 pub enum Checked {
     Sound(Counts),
     Refused(u32, usize),

@@ -10,7 +10,7 @@ use geometry::placement::Placement;
 use plan_rules::{Fixed, Reason, ScenePlan};
 
 // The plan so far, whether the cell's lists are to be visited, and, if so, the cell's placed box.
-#[derive(Drop)]
+#[derive(Clone, Copy)]
 pub struct Entered {
     pub plan: ScenePlan,
     pub goes: bool,

@@ -8,7 +8,7 @@ use crate::text::{Word, next_line, word_at};
 use floats::pattern::{f64_from_bits, f64_to_bits};
 
 // What is replayed. The names with Single are on f32.
-#[derive(Drop)]
+#[derive(Clone, Copy)]
 pub(crate) enum Operation {
     Fused,
     Narrow,
@@ -23,7 +23,7 @@ pub(crate) enum Operation {
 }
 
 // How many passed and failed, and whether all was written so far.
-#[derive(Drop)]
+#[derive(Clone, Copy)]
 pub(crate) struct Tally {
     pub(crate) passed: u64,
     pub(crate) failed: u64,
@@ -109,7 +109,7 @@ fn operands(operation: Operation) -> u64 {
 }
 
 // Whether the case at `at` passed, and where the next line starts.
-#[derive(Drop)]
+#[derive(Clone, Copy)]
 struct Outcome {
     passed: bool,
     next: usize,

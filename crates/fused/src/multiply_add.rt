@@ -97,7 +97,7 @@ fn fused_pattern(x: u64, y: u64, z: u64) -> u64
 }
 
 // A term of the sum: the two words times 2^exponent, over 2^2274.
-#[derive(Drop)]
+#[derive(Clone, Copy)]
 pub(crate) struct Term {
     pub(crate) hi: u64,
     pub(crate) lo: u64,

@@ -7,7 +7,7 @@ ghost use Rattle.fused.specs.TwoWords.{words, wide, LeadingWord};
 
 use rounding::nearest::leading_zeros;
 
-#[derive(Drop)]
+#[derive(Clone, Copy)]
 pub(crate) struct Wide {
     pub(crate) hi: u64,
     pub(crate) lo: u64,
@@ -108,7 +108,7 @@ pub(crate) fn shift_to_odd(hi: u64, lo: u64, d: u64) -> Wide
 }
 
 // The upper word of a number that was shifted up, and how far.
-#[derive(Drop)]
+#[derive(Clone, Copy)]
 pub(crate) struct Leading {
     pub(crate) word: u64,
     pub(crate) shift: u64,

@@ -4,7 +4,7 @@ ghost use Rattle.geometry.specs.Bbox.{bbox, overlaps, merge, least, greatest, in
 
 use crate::placement::{DVec2, Placement};
 
-#[derive(Drop)]
+#[derive(Clone, Copy)]
 pub struct WorldBBox {
     pub min_x: f64,
     pub min_y: f64,
@@ -13,7 +13,7 @@ pub struct WorldBBox {
 }
 
 // A box is either absent or four floats: min x, min y, max x, max y.
-#[derive(Drop)]
+#[derive(Clone, Copy)]
 pub enum Bounds {
     Absent,
     Box(f64, f64, f64, f64),

@@ -2,14 +2,14 @@
 ghost use Rattle.std.specs.Prelude.{◌≡◌};
 ghost use Rattle.geometry.specs.Placement.{transform_vector2, transform_point2, ◌·◌};
 
-#[derive(Drop)]
+#[derive(Clone, Copy)]
 pub struct DVec2 {
     pub x: f64,
     pub y: f64,
 }
 
 // The x axis (xx, xy), the y axis (yx, yy) and the translation (tx, ty).
-#[derive(Drop)]
+#[derive(Clone, Copy)]
 pub struct Placement {
     pub xx: f64,
     pub xy: f64,

@@ -11,7 +11,7 @@ use geometry::bbox::{Bounds, WorldBBox};
 use geometry::placement::{DVec2, Placement};
 
 // `cos` and `sin` stand in for the sine and cosine of the Rust's angle.
-#[derive(Drop)]
+#[derive(Clone, Copy)]
 pub struct Grid {
     pub columns: u32,
     pub rows: u32,

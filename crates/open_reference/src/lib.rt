@@ -12,7 +12,7 @@ use records::PreparedReference;
 use screen::CollapseTest;
 
 // The plan so far, whether the reference's draw units are to be counted, and, if so, its source's box and its own placed box.
-#[derive(Drop)]
+#[derive(Clone, Copy)]
 pub struct Opened {
     pub plan: ScenePlan,
     pub goes: bool,

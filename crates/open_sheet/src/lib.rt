@@ -13,7 +13,7 @@ use look_up::{count_for, start_for};
 
 // An open sheet with the number of places that its finder takes; or the number and the offset of the first no;
 // or, for number 13, how many places would be enough.
-#[derive(Drop)]
+#[derive(Clone, Copy)]
 pub enum Opened {
     Open(usize),
     Refused(u32, usize),

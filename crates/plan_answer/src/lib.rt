@@ -12,7 +12,7 @@ pub use part::{put_part, text_end};
 pub use print::print_answer;
 
 // What is printed: the lines of so many bytes of the tape, or one line.
-#[derive(Drop)]
+#[derive(Clone, Copy)]
 pub enum Printed {
     Tape(usize),
     Refused(u32, usize),

@@ -14,7 +14,7 @@ const QUERY_LENGTH: usize = 54;
 const QUERY_KIND: u16 = 20;
 
 // The options, how many hidden layers there are, and where the sheet begins.
-#[derive(Drop)]
+#[derive(Clone, Copy)]
 pub struct QueryRecord {
     pub options: SceneOptions,
     pub hidden: usize,
@@ -22,7 +22,7 @@ pub struct QueryRecord {
 }
 
 // What the input begins with.
-#[derive(Drop)]
+#[derive(Clone, Copy)]
 pub enum FirstRecord {
     Query(QueryRecord),
     NoQuery,

@@ -9,7 +9,7 @@ use geometry::bbox::WorldBBox;
 
 // The tape's end, the texts and proxies listed so far, the six totals of `SceneStats` in its field order, and the proxies that met a full list.
 // The limits are tested on these numbers, so one struct stands for the Rust's `ScenePlan` with its lists' lengths.
-#[derive(Drop)]
+#[derive(Clone, Copy)]
 pub struct ScenePlan {
     pub tape_end: u64,
     pub texts: u64,
@@ -24,7 +24,7 @@ pub struct ScenePlan {
 }
 
 // "A query: root cell 4, depth 4, view 4 f, zoom f": the hidden layers stand in a slice beside it.
-#[derive(Drop)]
+#[derive(Clone, Copy)]
 pub struct SceneOptions {
     pub root: u32,
     pub depth: u32,
@@ -33,7 +33,7 @@ pub struct SceneOptions {
 }
 
 // What does not change during a plan: the query without its hidden layers, the object limit, and how many records of each kind the sheet has.
-#[derive(Drop)]
+#[derive(Clone, Copy)]
 pub struct Fixed {
     pub options: SceneOptions,
     pub object_limit: u64,
@@ -41,7 +41,7 @@ pub struct Fixed {
 }
 
 // Why a box was made: document 02's nine reasons, in its order and with its numbers.
-#[derive(Drop)]
+#[derive(Clone, Copy)]
 pub enum Reason {
     DepthZero, // 1
     CellLimit, // 2
@@ -55,7 +55,7 @@ pub enum Reason {
 }
 
 // What a call answers: the tape's length in bytes, a refusal's number and offset, or, for number 12, the length that the tape has.
-#[derive(Drop)]
+#[derive(Clone, Copy)]
 pub enum Answer {
     Planned(usize),
     Refused(u32, usize),

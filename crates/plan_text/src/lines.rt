@@ -9,7 +9,7 @@ use crate::line::put_line;
 const LINE_ROOM: usize = 160;
 
 // Where the lines stop: on the tape, and in the text.
-#[derive(Drop)]
+#[derive(Clone, Copy)]
 pub struct Lines {
     pub next: usize,
     pub end: usize,

@@ -19,7 +19,7 @@ use plan_answer::Printed;
 use streams::Input;
 
 // Where the input and the text of a case begin, and where it ends.
-#[derive(Drop)]
+#[derive(Clone, Copy)]
 struct Case {
     input: usize,
     expected: usize,
@@ -27,7 +27,7 @@ struct Case {
 }
 
 // How many passed and failed, and whether all was written so far.
-#[derive(Drop)]
+#[derive(Clone, Copy)]
 struct Tally {
     passed: u64,
     failed: u64,

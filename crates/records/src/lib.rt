@@ -20,7 +20,7 @@ pub use items::{geometry_at, node_at, node_point_at, reference_at, source_within
 pub use parts::{NO_LABEL, label};
 
 // A batch.
-#[derive(Drop)]
+#[derive(Clone, Copy)]
 pub struct PreparedGeometry {
     pub layer: u32,
     pub data_type: u32,
@@ -28,7 +28,7 @@ pub struct PreparedGeometry {
     pub bbox: WorldBBox,
 }
 
-#[derive(Drop)]
+#[derive(Clone, Copy)]
 pub struct PreparedText {
     pub layer: u32,
     pub data_type: u32,
@@ -36,7 +36,7 @@ pub struct PreparedText {
 }
 
 // A node, with the number of its points.
-#[derive(Drop)]
+#[derive(Clone, Copy)]
 pub struct PreparedNode {
     pub layer: u32,
     pub node_type: u32,
@@ -44,7 +44,7 @@ pub struct PreparedNode {
 }
 
 // What a reference places, by its number.
-#[derive(Drop)]
+#[derive(Clone, Copy)]
 pub enum PreparedSource {
     Geometry(u32),
     Text(u32),
@@ -53,7 +53,7 @@ pub enum PreparedSource {
     Cell(u32),
 }
 
-#[derive(Drop)]
+#[derive(Clone, Copy)]
 pub struct PreparedReference {
     pub grid: Grid,
     pub source: PreparedSource,
@@ -61,14 +61,14 @@ pub struct PreparedReference {
 }
 
 // A reference's source as its record has it: a kind and a number.
-#[derive(Drop)]
+#[derive(Clone, Copy)]
 pub struct SourceField {
     pub kind: u16,
     pub number: u32,
 }
 
 // How many numbers each list of a cell has, as its record has them.
-#[derive(Drop)]
+#[derive(Clone, Copy)]
 pub struct ListCounts {
     pub geometries: u16,
     pub texts: u16,
@@ -77,7 +77,7 @@ pub struct ListCounts {
 }
 
 // A cell, with the length of each of its lists.
-#[derive(Drop)]
+#[derive(Clone, Copy)]
 pub struct PreparedCell {
     pub direct_draw_units: u64,
     pub bbox: Bounds,

@@ -36,7 +36,7 @@ pub(crate) fn exponent_of(n: u64) -> u64
 
 // A significand that was shifted up, and its exponent then, counted from that of the smallest value
 // less 63.
-#[derive(Drop)]
+#[derive(Clone, Copy)]
 pub struct Scaled {
     pub significand: u64,
     pub exponent: u64,

@@ -23,7 +23,7 @@ const MIN_AVERAGE_ELEMENT_AREA_PX: f32 = 16.0;
 
 const MIN_FIXED_CONTENT_PX: f32 = 24.0;
 
-#[derive(Drop)]
+#[derive(Clone, Copy)]
 pub struct ScreenSize {
     pub width: f32,
     pub height: f32,
@@ -103,7 +103,7 @@ pub fn is_dense_batch(size: ScreenSize, element_count: u32) -> bool
 }
 
 // Which test of `should_collapse_reference` sends a reference to a box.
-#[derive(Drop)]
+#[derive(Clone, Copy)]
 pub enum CollapseTest {
     Passed,
     Depth,

@@ -23,7 +23,7 @@ const NOTHING: u32 = 0xFFFF_FFFF;
 // The cases that are run together: a group for each expected number, 0 to 7, and one for all look-ups.
 const LOOK_UPS: u32 = 8;
 
-#[derive(Drop)]
+#[derive(Clone, Copy)]
 struct Case {
     number: u32,
     offset: u32,
@@ -37,7 +37,7 @@ struct Case {
 }
 
 // How many passed and failed, and whether all was written so far.
-#[derive(Drop)]
+#[derive(Clone, Copy)]
 struct Tally {
     passed: u64,
     failed: u64,

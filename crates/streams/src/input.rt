@@ -6,7 +6,7 @@ ghost use Rattle.streams.specs.declared.input.Input.TheVariants.{Unreadable};
 use crate::moved::{Moved, TRIES, meaning};
 
 // What reading came to. Only `Whole` is an input to answer.
-#[derive(Drop)]
+#[derive(Clone, Copy)]
 pub enum Input {
     Whole(usize), // so many bytes, and then the end
     TooLong, // the buffer was full before the end

@@ -5,7 +5,7 @@ ghost use Rattle.streams.specs.Moving.{unmoved_of, moved_of};
 use libc::EINTR;
 
 // So many bytes moved; none, which is a read's end; interrupted before a byte was moved; or failed.
-#[derive(Drop)]
+#[derive(Clone, Copy)]
 pub(crate) enum Moved {
     Bytes(usize),
     Nothing,

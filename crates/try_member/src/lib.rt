@@ -13,7 +13,7 @@ use plan_rules::{Fixed, Reason, ScenePlan};
 use records::{NO_LABEL, PreparedReference};
 
 // The plan so far; whether the member's source is to be visited, with the member's placement and box; if not, whether the visit of the reference goes on.
-#[derive(Drop)]
+#[derive(Clone, Copy)]
 pub struct Tried {
     pub plan: ScenePlan,
     pub opens: bool,

@@ -16,7 +16,7 @@ mod cell; // the lists of an open cell
 pub use lists::{load_cell, push_geometries, push_nodes, push_texts};
 
 // A cell that is open: its number, where its record stands, the record, and where the cell is placed, with its box there.
-#[derive(Drop)]
+#[derive(Clone, Copy)]
 pub struct OpenCell {
     pub number: u32,
     pub at: usize,
@@ -26,7 +26,7 @@ pub struct OpenCell {
 }
 
 // A plan, and how many references are left to visit: none after a limit.
-#[derive(Drop)]
+#[derive(Clone, Copy)]
 pub struct Listed {
     pub plan: ScenePlan,
     pub references: u32,

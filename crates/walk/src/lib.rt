@@ -11,7 +11,7 @@ use fields::{HEAD, KIND};
 pub const MAX_SHEET_BYTES: usize = 16_777_216;
 
 // What a look-up finds: the offset of a record, or nothing.
-#[derive(Drop)]
+#[derive(Clone, Copy)]
 pub enum Found {
     At(usize),
     Nothing,
