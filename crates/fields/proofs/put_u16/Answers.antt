@@ -1,0 +1,14 @@
+-- `fields::put_u16` meets its contract. Assumes nothing.
+use Rattle.fields.proofs.Halves.{write_halves, write_past_end}
+use borrow.Author.Rules.{rules}
+use Rattle.fields.proofs.put_u16.Goals as goal
+
+pub returns-then-at-d : goal.returns-then-at-d
+returns-then-at-d c =
+    let a = c.args in
+    write_past_end 2 a.n a.d.now a.at c.if-at-d.true
+
+pub returns : goal.returns
+returns c =
+    let a = c.args in
+    write_halves 1 a.n a.d.now a.at c.put_byte.ensures c.put_byte-2.ensures

@@ -1,0 +1,9 @@
+-- `fields::put_u32_within` meets its contract. Assumes nothing.
+use Rattle.fields.proofs.Halves.{write_halves}
+use borrow.Author.Rules.{rules}
+use Rattle.fields.proofs.put_u32_within.Goals as goal
+
+pub returns : goal.returns
+returns c =
+    let a = c.args in
+    write_halves 2 a.n a.d.now a.at c.put_u16_within.ensures c.put_u16_within-2.ensures

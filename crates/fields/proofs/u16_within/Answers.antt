@@ -1,0 +1,24 @@
+-- `fields::u16_within` meets its contract. Assumes nothing.
+use native.Mathlib.Omega.{arith}
+use Prim.Native.Nat.{◌+◌}
+use Rattle.fields.specs.Field.{uint_at}
+use borrow.Author.Rules.{rules}
+use Rattle.fields.proofs.u16_within.Goals as goal
+
+pub overflow_cast-low : goal.overflow_cast-low
+overflow_cast-low c = omega (arith, c.shared_slice_known-1.given c.args.at)
+
+pub overflow_cast-high : goal.overflow_cast-high
+overflow_cast-high c = omega (arith, c.shared_slice_known-2-1.given (c.args.at + 1))
+
+pub overflow_mul-result : goal.overflow_mul-result
+overflow_mul-result c = omega (arith, c.shared_slice_known-2-1.given (c.args.at + 1))
+
+pub overflow_add-result : goal.overflow_add-result
+overflow_add-result c =
+    let a = c.args in
+    omega (arith, c.shared_slice_known-2-1.given a.at, c.shared_slice_known-2-1.given (a.at + 1))
+
+pub returns : goal.returns
+unfolding uint_at
+returns c = search rules
