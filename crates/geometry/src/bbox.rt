@@ -32,6 +32,7 @@ impl WorldBBox {
     }
 
     // Edges belong to boxes, and a NaN overlaps nothing.
+    #[tactic(auto, unfolding(crate::specs::Bbox::overlaps))]
     pub fn overlaps(self, other: WorldBBox) -> bool
         ensures { result ≡ overlaps self other }
     {
@@ -121,6 +122,7 @@ pub fn transform_bbox(transform: Placement, bbox: WorldBBox) -> WorldBBox
     )
 }
 
+#[tactic(auto, unfolding(crate::specs::Bbox::point_in_bbox))]
 pub fn point_in_bbox(point: DVec2, bbox: WorldBBox) -> bool
     ensures { result ≡ point_in_bbox point bbox }
 {
@@ -146,6 +148,7 @@ pub fn transform_bounds(transform: Placement, bounds: Bounds) -> Bounds
 }
 
 // `world_bbox.is_some_and(|bbox| !bbox.overlaps(self.options.visible))`
+#[tactic(auto, unfolding(crate::specs::Bbox::is_outside))]
 pub fn is_outside(bounds: Bounds, view: WorldBBox) -> bool
     ensures { result ≡ is_outside bounds view }
 {
