@@ -4,7 +4,7 @@ use mathlib.Core.Path.{◌≡◌, sym, ap, ◌∙◌, subst}
 use mathlib.Core.Logic.{◌⊎◌, inl, inr}
 use mathlib.Core.Bool.{Bool, true, false, cond}
 use Prim.Native.Nat.{ℕ, zero, suc, ◌+◌, ◌-◌, ◌*◌, ◌%◌, ◌^◌, ◌≤◌, ◌<◌}
-use native.Mathlib.Nat.{le_refl, le_trans, le_of_eq, lt_irrefl, lt_of_lt_of_le, eq-zero-or-pos, add-mul, suc-mul, mul-one, one-mul, mul_assoc, mul_comm, mul_left_comm, mul-le-mul_right, mul-lt-mul_of_pos_right, eq_of_mul-eq-mul_right, pow-succ', le-add_right, lt_of_mul_lt_mul_right}
+use native.Mathlib.Nat.{le_refl, le_trans, le_of_eq, lt_irrefl, lt_of_lt_of_le, eq-zero-or-pos, add-mul, suc-mul, mul-one, one-mul, mul_assoc, mul_comm, mul_left_comm, mul-le-mul_right, mul-lt-mul_of_pos_right, eq_of_mul-eq-mul_right, pow-succ', le-add_right, lt_of_mul-lt-mul_right}
 use native.Mathlib.Omega.{arith}
 use lib.Dec.{eqb, eqb→eq, not_T}
 use lib.Bits.{bit_and, bit_or, and_mask, or_add_and}
@@ -132,6 +132,6 @@ pub to_odd_unscale : (m n d c : ℕ) → 0 < c → RoundsToOdd m (n * c) (d * c)
 to_odd_unscale m n d c C (inl e) = inl (eq_of_mul-eq-mul_right c C (m * d) n (mul_assoc m d c ∙ e))
 to_odd_unscale m n d c C (inr h) = inr (
   h.0,
-  lt_of_mul_lt_mul_right c (subst (λ (x : ℕ). n * c < x) (sym (add-mul (m * d) d c ∙ ap (λ (x : ℕ). x + d * c) (mul_assoc m d c))) h.1),
-  lt_of_mul_lt_mul_right c (subst (λ (x : ℕ). x < (n + d) * c) (sym (mul_assoc m d c)) (subst (λ (x : ℕ). m * (d * c) < x) (sym (add-mul n d c)) h.2)),
+  lt_of_mul-lt-mul_right c (subst (λ (x : ℕ). n * c < x) (sym (add-mul (m * d) d c ∙ ap (λ (x : ℕ). x + d * c) (mul_assoc m d c))) h.1),
+  lt_of_mul-lt-mul_right c (subst (λ (x : ℕ). x < (n + d) * c) (sym (mul_assoc m d c)) (subst (λ (x : ℕ). m * (d * c) < x) (sym (add-mul n d c)) h.2)),
 )
