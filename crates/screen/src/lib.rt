@@ -71,6 +71,7 @@ pub fn reference_screen_size(bbox: WorldBBox, zoom: f64, source_is_degenerate: b
 }
 
 // Skipped: a size that is not finite, or under one pixel in width and in height.
+#[tactic(auto, unfolding(crate::specs::Screen::is_subpixel))]
 pub fn is_subpixel(size: ScreenSize) -> bool
     ensures { result ≡ is_subpixel size }
 {
