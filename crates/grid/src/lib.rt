@@ -103,6 +103,7 @@ fn corners_bbox(grid: Grid, column: u32, row: u32, source_bbox: WorldBBox) -> Wo
 }
 
 // The box of all members. Without columns or rows there is none.
+#[tactic(auto, unfolding(crate::specs::Grid::reference_bbox))]
 pub fn reference_bbox(grid: Grid, source_bbox: WorldBBox) -> Bounds
     ensures { result ≡ reference_bbox grid source_bbox }
 {
