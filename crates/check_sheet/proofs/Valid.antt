@@ -40,7 +40,7 @@ sound s c e =
     let checked = sound_all_right s (offsets s) _ c sized.1 in
     let few = passed _ _ 7 0 c checked.1 in
     let linked = sound_all_named s (counts_of s) c 0 (offsets s) few.1 in
-    (record { short = leb-true _ _ sized.0; records = checked.0; few-cells = leb-true _ _ few.0; named = linked.0 }, sym linked.1)
+    (record { short = leb-true _ _ sized.0; records = checked.0; few_cells = leb-true _ _ few.0; named = linked.0 }, sym linked.1)
 
 -- a sound answer gives a valid sheet, and the counts of each kind
 pub sound_valid : (s : List ℕ) (c : Counts) → check_sheet s ≡ Sound c → Valid s

@@ -36,7 +36,7 @@ root_whole : IsWholePlacement identity fractions.identity
 root_whole =
     let zero = natural_whole 0 in
     let one = natural_whole 1 in
-    record { x-axis = record { x = one; y = zero }; y-axis = record { x = zero; y = one }; translation = record { x = zero; y = zero } }
+    record { x_axis = record { x = one; y = zero }; y_axis = record { x = zero; y = one }; translation = record { x = zero; y = zero } }
 
 module _ (T : ExactPlacement) (U : FractionPlacement) (h : IsWholePlacement T U) where
   linear_whole : (i : Vector) (v : FractionVector) → IsWholeVector i v → IsWholeVector (linear_step T.orientation i) (linear U v)
@@ -47,8 +47,8 @@ module _ (T : ExactPlacement) (U : FractionPlacement) (h : IsWholePlacement T U)
 
   compose_whole : (C : ExactPlacement) (D : FractionPlacement) → IsWholePlacement C D → IsWholePlacement (T ∘ C) (fractions.◌∘◌ U D)
   compose_whole C D k = record {
-    x-axis = vector_same (unrounded_steps.product_x T C) (linear_whole (x_axis C.orientation) D.x_axis k.x_axis);
-    y-axis = vector_same (unrounded_steps.product_y T C) (linear_whole (y_axis C.orientation) D.y_axis k.y_axis);
+    x_axis = vector_same (unrounded_steps.product_x T C) (linear_whole (x_axis C.orientation) D.x_axis k.x_axis);
+    y_axis = vector_same (unrounded_steps.product_y T C) (linear_whole (y_axis C.orientation) D.y_axis k.y_axis);
     translation = move_whole C.translation D.translation k.translation;
   }
 
@@ -93,8 +93,8 @@ module _ (g : Grid) (z : IntegerGrid) (h : IsGrid g z) where
       let y = y_axis_step z.x_reflection (cosine z.angle) (sine z.angle) in
       let reflected = subst (λ (b : Bool). IsWholeVector y (y_axis_of b (value_of g.cos) (value_of g.sin))) (sym h.x_reflection) (y_axis_whole z.x_reflection) in
       record {
-        x-axis = vector_same (unrounded_steps.member_x z column row) (magnified_whole (record { x = cos_whole; y = sin_whole }));
-        y-axis = vector_same (unrounded_steps.member_y z column row) (magnified_whole reflected);
+        x_axis = vector_same (unrounded_steps.member_x z column row) (magnified_whole (record { x = cos_whole; y = sin_whole }));
+        y_axis = vector_same (unrounded_steps.member_y z column row) (magnified_whole reflected);
         translation = vector_same (unrounded_steps.member_translation z column row)
             (vector_sum (vector_whole g.origin z.origin h.origin) (rotated_whole _ (offset g column row) (offset_whole column row)));
       }

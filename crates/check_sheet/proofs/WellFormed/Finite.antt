@@ -39,10 +39,10 @@ module _ (s : List ℕ) (valid : Valid s) (kind n at : ℕ) (found : find s kind
   unfolding world_bbox_at
   bbox_at j place h p =
       record {
-        min-x = float_at j _ (omega arith) p;
-        min-y = float_at (j + 1) _ (omega arith) (omega arith);
-        max-x = float_at (j + 2) _ (omega arith) (omega arith);
-        max-y = float_at (j + 3) _ h (omega arith);
+        min_x = float_at j _ (omega arith) p;
+        min_y = float_at (j + 1) _ (omega arith) (omega arith);
+        max_x = float_at (j + 2) _ (omega arith) (omega arith);
+        max_y = float_at (j + 3) _ h (omega arith);
       }
 
   bounds_at_lem : (j place : ℕ) → j + 3 < floats_count kind (length_at s at) → place ≡ at + floats_from kind + 8 * j → (b : Bool) → FiniteBounds (bounds_at s place b)
@@ -81,8 +81,8 @@ module _ (s : List ℕ) (valid : Valid s) (n : ℕ) where
       subst (λ (y : PreparedReference). FiniteGrid y.grid) (sym l.same)
       (record {
         origin = point 0 _ (omega arith) (omega arith);
-        spacing-x = point 2 _ (omega arith) (omega arith);
-        spacing-y = point 4 _ (omega arith) (omega arith);
+        spacing_x = point 2 _ (omega arith) (omega arith);
+        spacing_y = point 4 _ (omega arith) (omega arith);
         magnification = float 6 _ (omega arith) (omega arith);
         cos = float 7 _ (omega arith) (omega arith);
         sin = float 8 _ (omega arith) (omega arith);

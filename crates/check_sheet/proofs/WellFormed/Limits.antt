@@ -30,7 +30,7 @@ module _ (s : List ℕ) (valid : Valid s) (n : ℕ) where
       record {
         columns = rw l.same grid.columns_most;
         rows = rw l.same grid.rows_most;
-        cell-source = cell_source_below s valid n r e;
+        cell_source = cell_source_below s valid n r e;
       }
 
   -- question 3

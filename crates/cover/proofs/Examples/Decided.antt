@@ -177,7 +177,7 @@ square_sheet s h =
       text = λ n x e. square_vector x.origin (of_every (text_at s) (λ (x : PreparedText). is_square_vector x.origin) (of_kind s 2) b.0 n x e);
       point = λ n x j e j<. square_vector (x.point j) (of_every_below (λ (j : ℕ). is_square_vector (x.point j)) x.count (of_every (node_record_at s) is_square_node (of_kind s 3) c.0 n x e) j j<);
       grid = λ n r e. square_grid r.grid (both (is_square_grid r.grid) _ (grids n r e)).0;
-      source-box = λ n r e. square_bounds r.source_bbox (both (is_square_grid r.grid) _ (grids n r e)).1;
+      source_box = λ n r e. square_bounds r.source_bbox (both (is_square_grid r.grid) _ (grids n r e)).1;
       cell_box = λ n c e. square_bounds c.bbox (of_every (cell_record_at s) (λ (c : CellRecord). is_square_bounds c.bbox) (of_kind s 5) d.1 n c e);
     }
 

@@ -51,10 +51,10 @@ magnified u v e = subst (λ (w : Vector). u ≐ᵛ w ⊛ integer 1) e (record { 
 pub unrounded_steps : UnroundedSteps
 unrounded_steps = record {
   point = λ T v. move_steps T.orientation v T.translation;
-  product-x = λ P C. compose_steps P.orientation C.orientation (record { x = integer 1; y = integer 0 });
-  product-y = λ P C. compose_steps P.orientation C.orientation (record { x = integer 0; y = integer 1 });
-  product-translation = λ P C. move_steps P.orientation C.translation P.translation;
-  member-x = λ g c r. magnified _ _ (member_axes g.x_reflection g.angle).0;
-  member-y = λ g c r. magnified _ _ (member_axes g.x_reflection g.angle).1;
-  member-translation = λ g c r. offset_steps g (member_offset g c r);
+  product_x = λ P C. compose_steps P.orientation C.orientation (record { x = integer 1; y = integer 0 });
+  product_y = λ P C. compose_steps P.orientation C.orientation (record { x = integer 0; y = integer 1 });
+  product_translation = λ P C. move_steps P.orientation C.translation P.translation;
+  member_x = λ g c r. magnified _ _ (member_axes g.x_reflection g.angle).0;
+  member_y = λ g c r. magnified _ _ (member_axes g.x_reflection g.angle).1;
+  member_translation = λ g c r. offset_steps g (member_offset g c r);
 }
