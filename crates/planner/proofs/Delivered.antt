@@ -57,7 +57,7 @@ module _ {f : Fixed} (g : Given f) (o k m : List ℕ) where
       ∙ sym (delivered_is_written g.sheet cells (query g) o k m small)
 
   -- The same from the sweep over just the named places, `uk` counts and `um` marks: the places behind them stay as lent.
-  module _ (uk um : ℕ) (counts-used : uk ≡ nk) (marks-used : um ≡ nm) (counts_lent : uk ≤ length k) (marks_lent : um ≤ length m) where
+  module _ (uk um : ℕ) (counts-used : uk ≡ nk) (marks-used : um ≡ nm) (counts-lent : uk ≤ length k) (marks-lent : um ≤ length m) where
     abbrev left : Output
     left = visited g o nk nm
 
