@@ -11,6 +11,10 @@ use Rattle.exact.proofs.Floats.Order.{le_of_at_most}
 
 all_four : (a b c d : Bool) → T a → T b → T c → T d → T (a && b && c && d)
 all_four true true true true p q r s = tt
+all_four mathlib.Core.Bool.false b c d p q r s = elim p [ ]
+all_four true mathlib.Core.Bool.false c d p q r s = elim q [ ]
+all_four true true mathlib.Core.Bool.false d p q r s = elim r [ ]
+all_four true true true mathlib.Core.Bool.false p q r s = elim s [ ]
 
 pub overlaps_exact : (a b : WorldBBox) (y z : IntegerBox) → IsBox a y → IsBox b z → Touches y z → T (overlaps a b)
 unfolding overlaps

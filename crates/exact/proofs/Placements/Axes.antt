@@ -31,10 +31,10 @@ member_axes true degrees180 = (refl, refl)
 member_axes true degrees270 = (refl, refl)
 
 -- in floats
-y_axis_exact : (b : Bool) (c s : Float) (k l : Integer) → IsInteger c k → IsInteger s l → IsVector (gridYAxis b c s) (y_axis_step b k l)
+grid_y_axis_exact : (b : Bool) (c s : Float) (k l : Integer) → IsInteger c k → IsInteger s l → IsVector (gridYAxis b c s) (y_axis_step b k l)
 unfolding gridYAxis
-y_axis_exact true c s k l p q = record { x = q; y = neg_integer c k p }
-y_axis_exact false c s k l p q = record { x = neg_integer s l q; y = p }
+grid_y_axis_exact true c s k l p q = record { x = q; y = neg_integer c k p }
+grid_y_axis_exact false c s k l p q = record { x = neg_integer s l q; y = p }
 
 -- times the magnification, 1
 magnified : (v : DVec2) (m : Float) (i : Vector) → IsVector v i → IsInteger m (integer 1) → VectorWithin exact_up_to i → IsVector (scaled v m) i
@@ -55,5 +55,5 @@ module _ (g : Grid) (z : IntegerGrid) (h : IsGrid g z) where
       let a = z.angle in
       let v = gridYAxis g.x_reflection g.cos g.sin in
       let same = ap (λ (b : Bool). y_axis_step b (cosine a) (sine a)) h.x_reflection ∙ sym (member_axes z.x_reflection a).1 in
-      let is = subst (IsVector v) same (y_axis_exact g.x_reflection g.cos g.sin (cosine a) (sine a) h.cos h.sin) in
+      let is = subst (IsVector v) same (grid_y_axis_exact g.x_reflection g.cos g.sin (cosine a) (sine a) h.cos h.sin) in
       magnified v g.magnification (y_axis (member_orientation z)) is h.magnification (axis_within (member_orientation z)).1

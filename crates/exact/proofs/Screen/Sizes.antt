@@ -107,6 +107,8 @@ screen_size_finite zoom degenerate b z zw i w =
 -- ---- what the rules skip
 third_holds : (a b c : Bool) → T a → T b → T (not a || not b || c) → T c
 third_holds true true c p q t = t
+third_holds false b c p q t = elim p [ ]
+third_holds true false c p q t = elim q [ ]
 
 pub subpixel_under_one_pixel : (zoom : Float) (degenerate : Bool) (b : WorldBBox) (z : IntegerBox) → ZoomWithin zoom → IsBox b z
     → SidesWithin (2 ^ 53) z
