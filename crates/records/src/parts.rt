@@ -38,7 +38,8 @@ pub fn padded(s: &[u8], at: usize) -> [u8; REFERENCE_END]
     ensures { (j k : ℕ) → uint_at k result j ≡ uint_at k s.now (at + j) }
 {
     let mut out = [0; REFERENCE_END];
-    bytes::copy(from(s, at), &mut out);
+    let tail = from(s, at);
+    out[..tail.len()].copy_from_slice(tail);
     out
 }
 
@@ -101,6 +102,7 @@ pub fn bit(flags: u16, place: u32) -> bool
     (flags >> place) % 2 == 1
 }
 
+#[tactic(auto, unfolding(crate::specs::Records::source_of))]
 pub fn source_of(kind: u16, number: u32) -> PreparedSource
     ensures { result ≡ source_of kind number }
 {
@@ -117,6 +119,7 @@ pub fn source_of(kind: u16, number: u32) -> PreparedSource
 pub const NO_LABEL: u32 = 0xffff_ffff;
 
 // `reference.label`
+#[tactic(auto, unfolding(crate::specs::Sources::label))]
 pub fn label(source: PreparedSource) -> u32
     ensures { result ≡ label source }
 {

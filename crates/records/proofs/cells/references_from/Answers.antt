@@ -1,0 +1,15 @@
+-- `records::cells::references_from` meets its contract. Assumes nothing.
+use Prim.Native.Nat.{ℕ, ◌+◌}
+use mathlib.Core.Path.{ap₂, ◌∙◌}
+use native.Mathlib.Omega.{arith}
+use Rattle.records.specs.Records.{references_from}
+use Rattle.records.proofs.Body.{uint_in}
+use borrow.Author.Rules.{rules}
+use Rattle.records.proofs.cells.references_from.Goals as goal
+
+pub returns : goal.returns
+unfolding references_from
+returns c =
+    let a = c.args in
+    let uint = uint_in _ a.s.now a.at c.from.ensures in
+    (ap₂ (λ (m n : ℕ). m + n) c.nodes_from.ensures.0 (c.u16_at.ensures ∙ uint _ _), omega (arith, c.nodes_from.ensures.1))

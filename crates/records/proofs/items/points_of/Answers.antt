@@ -1,0 +1,11 @@
+-- `records::items::points_of` meets its contract. Assumes nothing.
+use mathlib.Core.Path.{refl}
+use native.Mathlib.Omega.{arith}
+use borrow.Author.Rules.{rules}
+use Rattle.records.proofs.items.points_of.Goals as goal
+
+pub returns-then-length : goal.returns-then-length
+returns-then-length c = omega arith
+
+pub returns : goal.returns
+returns c = refl
