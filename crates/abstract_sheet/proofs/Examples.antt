@@ -61,9 +61,9 @@ worked_offsets : offsets worked_sheet ≡ 0 ∷ 26 ∷ []
 unfolding worked_sheet worked_text worked_cell opened
 worked_offsets = refl
 
-worked_text : (sheet_of worked_sheet).text 0 ≡ some (record { layer = 1; data_type = 0; origin = record { x = ten; y = twenty } })
+worked_text_lem : (sheet_of worked_sheet).text 0 ≡ some (record { layer = 1; data_type = 0; origin = record { x = ten; y = twenty } })
 unfolding worked_sheet worked_text worked_cell opened
-worked_text = refl
+worked_text_lem = refl
 
 -- there is no second text and no other cell
 worked_text_missing : (sheet_of worked_sheet).text 1 ≡ none
@@ -85,9 +85,9 @@ pub record WorkedCell (c : CellRecord) : Type 0 where
   pub listed : lengths c ≡ 0 ∷ 1 ∷ 0 ∷ 0 ∷ []
   pub text : c.texts.at 0 ≡ 0
 
-worked_cell : (c : CellRecord) × ((sheet_of worked_sheet).cell 0 ≡ some c) × WorkedCell c
+worked_cell_lem : (c : CellRecord) × ((sheet_of worked_sheet).cell 0 ≡ some c) × WorkedCell c
 unfolding worked_sheet worked_text worked_cell opened
-worked_cell = (cell_record_at worked_sheet 26, refl, record { units = refl; bbox = refl; listed = refl; text = refl })
+worked_cell_lem = (cell_record_at worked_sheet 26, refl, record { units = refl; bbox = refl; listed = refl; text = refl })
 
 -- ---- The empty sheet has nothing
 
