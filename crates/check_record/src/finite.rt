@@ -30,6 +30,7 @@ fn all_finite(s: &[u8], from: usize, count: usize) -> bool
     true
 }
 
+#[tactic(auto, unfolding(crate::specs::Floats::floats_from))]
 fn floats_from(kind: u16) -> usize
     ensures { result ≡ floats_from kind }
 {
@@ -48,6 +49,7 @@ const BOX_FLOATS: usize = BOX / FLOAT;
 
 const REFERENCE_FLOATS: usize = (REFERENCE_END - REFERENCE_ORIGIN) / FLOAT;
 
+#[tactic(auto, unfolding(crate::specs::Floats::floats_count))]
 fn floats_count(kind: u16, n: usize) -> usize
     requires { end_of node ≤ n }
     ensures { result ≡ floats_count kind n }

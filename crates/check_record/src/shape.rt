@@ -27,6 +27,7 @@ const NODE_LEAST: usize = NODE_END + POINT;
 const NODE_MOST: usize = NODE_END + MAX_POINTS * POINT;
 
 // Whether the length n is right for a kind other than a cell's.
+#[tactic(auto, using(crate::proofs::Tests::tests), unfolding(crate::specs::Shape::length_ok, crate::specs::Tests::both))]
 fn length_ok(kind: u16, n: usize) -> bool
     ensures { result ≡ length_ok kind n }
 {
