@@ -80,4 +80,4 @@ module _ (s : List ℕ) (valid : Valid s) where
 
     -- "a cell source below FFFFFFFF (hexadecimal)"
     pub cell_source_below : (m : ℕ) → r.source ≡ Cell m → m < 0xffffffff
-    cell_source_below m g = omega (arith, number_read cells m g, (found_grid_ok s valid n at found).cell-source (kind_read cells m g))
+    cell_source_below m g = omega (arith, number_read cells m g, (found_grid_ok s valid n at found).cell_source (kind_read cells m g))
