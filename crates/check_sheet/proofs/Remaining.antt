@@ -57,12 +57,12 @@ module _ (s : List ℕ) where
     unfolding link_ok
     other_ok own at e f = rw (e, f)
 
-    none_asked_named : (own : ℕ) (xs : List ℕ) → asked_in s xs ≡ 0 → AllNamed s c own xs
-    none_asked_named own [] e = tt
-    none_asked_named own (at ∷ xs) e =
+    none_asked_named : (xs : List ℕ) (own : ℕ) → asked_in s xs ≡ 0 → AllNamed s c own xs
+    none_asked_named [] own e = tt
+    none_asked_named (at ∷ xs) own e =
         let references = count_step s 4 at xs in
         let cells = count_step s 5 at xs in
-        (other_ok own at (none_counted _ (omega arith)) (none_counted _ (omega arith)), none_asked_named _ xs (omega arith))
+        (other_ok own at (none_counted _ (omega arith)) (none_counted _ (omega arith)), none_asked_named xs _ (omega arith))
 
 -- ---- The records from an offset on
 
@@ -90,7 +90,7 @@ module _ (s : List ℕ) (c : Counts) (at own left : ℕ) (r : Remaining s c at o
   pub none_remain : left ≤ 0 → Sound c ≡ first_unnamed s c 0 (offsets s) (Sound c)
   none_remain h =
       let none : asked_in s (offsets_from s at) ≡ 0 = omega (arith, r.asked) in
-      sym (all_named_later s c own (offsets_from s at) (Sound c) (none_asked_named s c own (offsets_from s at) none)) ∙ r.same
+      sym (all_named_later s c own (offsets_from s at) (Sound c) (none_asked_named s c (offsets_from s at) own none)) ∙ r.same
 
   module _ (some : 0 < left) where
     remains_within : at < length s

@@ -11,7 +11,7 @@ pub mod Named
 pub mod Limits
 pub mod Finite
 use Rattle.check_sheet.specs.WellFormed.{ValidIsWellFormed}
-use Rattle.check_sheet.proofs.WellFormed.Named.{cell_named, source_named}
+use Rattle.check_sheet.proofs.WellFormed.Named.{cell_named, source_named_lem}
 use Rattle.check_sheet.proofs.WellFormed.Limits.{few_cells, reference_limits, node_limits}
 use Rattle.check_sheet.proofs.WellFormed.Finite.{geometry_finite, text_finite, node_finite, grid_finite, source_box_finite, cell_box_finite}
 
@@ -19,7 +19,7 @@ pub valid_well_formed : ValidIsWellFormed
 valid_well_formed s valid =
     record {
       cell_named = cell_named s valid;
-      source_named = source_named s valid;
+      source_named = source_named_lem s valid;
       few_cells = few_cells s valid;
       reference_limits = reference_limits s valid;
       node_limits = node_limits s valid;

@@ -35,6 +35,7 @@ fn all_below(s: &[u8], from: usize, count: usize, bound: u32) -> bool
 }
 
 // Whether a source names an existing record, and a reference source one before its own number. A cell source may name any.
+#[tactic(auto, unfolding(crate::specs::Links::source_named))]
 fn source_named(kind: u16, number: u32, c: Counts, own: u32) -> bool
     ensures { result ≡ source_named kind number c own }
 {

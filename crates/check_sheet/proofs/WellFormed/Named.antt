@@ -71,8 +71,8 @@ module _ (s : List ℕ) (valid : Valid s) where
       asked : source_named (kind_number kind) m (counts_of s) n ≡ true
       asked = sym (ap₂ (λ (k i : ℕ). source_named k i (counts_of s) n) kind_read number_read) ∙ source_asked s valid n at found
 
-    pub source_named : SourceNamed (sheet_of s) n r
-    source_named =
+    pub source_named_lem : SourceNamed (sheet_of s) n r
+    source_named_lem =
         record {
           exists = λ kind m h g. item_some kind s m (source_exists s n m kind h (found_below s 4 n at found) (asked kind m g));
           earlier = λ m g. source_earlier (counts_of s) n m (asked references m g);

@@ -15,8 +15,7 @@ use Rattle.check_sheet.specs.Check.{first_no, first_unnamed, verdict}
 use Rattle.check_sheet.proofs.Passes.{sound_all_right}
 use Rattle.check_sheet.proofs.Answers.{too_long, record_refused, too_many_cells, then_links}
 use borrow.Author.Rules.{rules}
-use Rattle.check_sheet.proofs.check_sheet.Statement.{statement}
-use Rattle.check_sheet.proofs.check_sheet.Tie as tie
+use Rattle.check_sheet.proofs.check_sheet.Goals as goal
 
 -- what the first pass says where it answers counts
 counted : (s : List ℕ) (c : Counts) → first_no s (offsets s) (Sound (counts_of s)) ≡ Sound c → All (Right s) (offsets s) × (c ≡ counts_of s) × (c.cells ≡ count_of s 5)
@@ -27,39 +26,26 @@ counted s c e =
     let same : c ≡ counts_of s = cc in
     (r.0, same, ap (λ (x : Counts). x.cells) same)
 
-returns : tie.Need-returns
-returns c = ap verdict (sym (too_long _ c.if1.true))
+pub returns-then-s-gt-MAX_SHEET_BYTES : goal.returns-then-s-gt-MAX_SHEET_BYTES
+returns-then-s-gt-MAX_SHEET_BYTES c = ap verdict (sym (too_long _ c.if-s-gt-MAX_SHEET_BYTES.true))
 
-returns_2 : tie.Need-returns-2
-returns_2 c =
-    let known = counted c.before.before.before.before.before.before.before.before.args.s.now _ (sym c.before.before.before.before.before.scan.ensures ∙ c.before.before.before.counts.given.1) in
+pub returns-then-counts-gt-MAX_CELLS : goal.returns-then-counts-gt-MAX_CELLS
+returns-then-counts-gt-MAX_CELLS c =
+    let known = counted c.args.s.now _ (sym c.scan.ensures ∙ c.in-Sound.is) in
     ap verdict (sym (too_many_cells _ (omega arith) known.0 (omega arith)))
 
-links_requires : tie.Need-links-requires
-links_requires c κs =
-    let known = counted c.before.before.before.before.before.before.before.before.args.s.now _ (sym c.before.before.before.before.before.scan.ensures ∙ c.before.before.before.counts.given.1) in
-    (omega arith, (known.0, known.1))
+pub links-requires : goal.links-requires
+links-requires c =
+    let known = counted c.args.s.now _ (sym c.scan.ensures ∙ c.in-Sound.is) in
+    record { s_len_bound = omega arith; all = known.0; c_value = known.1 }
 
-returns_3 : tie.Need-returns-3
-returns_3 c = ap verdict (sym (record_refused _ (omega arith) _ _ _ (sym c.before.before.before.scan.ensures ∙ c.before.number.given.1)))
+pub returns-in-Refused : goal.returns-in-Refused
+returns-in-Refused c = ap verdict (sym (record_refused _ (omega arith) _ _ _ (sym c.scan.ensures ∙ c.in-Refused.is)))
 
-returns_4 : tie.Need-returns-4
-returns_4 c =
-    let s = c.before.before.before.before.before.before.before.before.before.args.s.now in
-    let known = counted s _ (sym c.before.before.before.before.before.before.scan.ensures ∙ c.before.before.before.before.counts.given.1) in
+pub returns-else-counts-gt-MAX_CELLS : goal.returns-else-counts-gt-MAX_CELLS
+returns-else-counts-gt-MAX_CELLS c =
+    let s = c.args.s.now in
+    let known = counted s _ (sym c.scan.ensures ∙ c.in-Sound.is) in
     ap verdict (c.links.ensures
     ∙ ap (λ (x : Counts). first_unnamed s x 0 (offsets s) (Sound x)) known.1
     ∙ sym (then_links s (omega arith) known.0 (omega arith)))
-
-pub check_sheet_spec : {M : Type 1} → statement M
-check_sheet_spec =
-    tie.close
-    (tie.spec
-    returns
-    (λ c κs. search rules)
-    (λ c. search rules)
-    (λ c. search rules)
-    returns_2
-    links_requires
-    returns_3
-    returns_4)
