@@ -11,6 +11,7 @@ use check_sheet::Counts;
 use walk::Found;
 
 // How many records there are of a kind of 1 to 5.
+#[tactic(auto, unfolding(crate::specs::Places::count_for))]
 pub fn count_for(c: Counts, kind: u16) -> u32
     ensures { result ≡ count_for c kind }
 {
@@ -24,6 +25,7 @@ pub fn count_for(c: Counts, kind: u16) -> u32
 }
 
 // The place of a kind's first record: behind all of the kinds before it. Four counts of 32 bits: no sum wraps.
+#[tactic(auto, unfolding(crate::specs::Places::start_for))]
 pub fn start_for(c: Counts, kind: u16) -> usize
     ensures value { result ≡ start_for c kind }
     ensures upper_bound { result ≤ 17179869180 }
