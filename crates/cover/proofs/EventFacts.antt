@@ -122,19 +122,19 @@ module _ (S : Sheet) (q : Query) where
     premises = record {
       at_batch = standing.stands_batch member_at S identity q.root Exactly;
       at_text = standing.stands_text member_at S identity q.root Exactly;
-      at-node = standing.stands_node member_at S identity q.root Exactly;
-      at-reference = standing.stands_reference member_at S identity q.root Exactly;
-      at-member = standing.stands_member member_at S identity q.root Exactly keeps;
-      listed-batch = batch_listed;
-      listed-text = text_listed;
-      listed-point = point_listed;
-      listed-proxy = λ t y l b. tt;
-      dropped-proxy = λ t y l b. tt;
+      at_node = standing.stands_node member_at S identity q.root Exactly;
+      at_reference = standing.stands_reference member_at S identity q.root Exactly;
+      at_member = standing.stands_member member_at S identity q.root Exactly keeps;
+      listed_batch = batch_listed;
+      listed_text = text_listed;
+      listed_point = point_listed;
+      listed_proxy = λ t y l b. tt;
+      dropped_proxy_lem = λ t y l b. tt;
       skipped_batch_lem = batch_skipped;
       skipped_member_lem = member_skipped;
-      culled-reference = λ t. tt;
-      culled-batch = λ t. tt;
-      detail-cell = λ t. tt;
+      culled_reference_lem = λ t. tt;
+      culled_batch_lem = λ t. tt;
+      detail_cell_lem = λ t. tt;
     }
 
     -- ---- the plan

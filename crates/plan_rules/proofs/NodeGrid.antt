@@ -106,12 +106,12 @@ module _ {P A : Type 0} (enter : Step → P → P) (emit : P → Event → ℕ �
 
     member_halts : (column row : ℕ) (w v : World A) → r.source ≡ Node n → (o : Out column row w v) → turn column row o.w₂ ≡ halt (both_boxes column row v)
     unfolding member_step visit_source_with label
-    member_halts column row w v source o = rw (o.room, o.in-view, o.large, o.visited, source, o.stopped)
+    member_halts column row w v source o = rw (o.room, o.in_view, o.large, o.visited, source, o.stopped)
 
     pub node_grid_runs_out : NodeGridRunsOut enter emit S q cells visit depth t r n p sourceBox world_box units
     unfolding column_step
     node_grid_runs_out column row w v source column< row< o =
-        each_halts_at (visit_column enter emit S q cells visit depth t r n p sourceBox world_box units) r.grid.columns column w o.w₁ _ column< o.columns-before
+        each_halts_at (visit_column enter emit S q cells visit depth t r n p sourceBox world_box units) r.grid.columns column w o.w₁ _ column< o.columns_before
         (each_halts_at (turn column) r.grid.rows row o.w₁ o.w₂ _ row< o.rows_before (member_halts column row w v source o))
 
     pub member_box_is_listed : MemberBoxIsListed enter emit S q cells visit depth t r n p sourceBox world_box units

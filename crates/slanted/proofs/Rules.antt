@@ -91,21 +91,21 @@ module _ (S : Sheet) (q : Query) (slanted : SlantedSheet S) where
 
   premises : Premises enter S q Stands Fact
   premises = record {
-    at-batch = standing.stands_batch member_at S identity q.root Near;
+    at_batch = standing.stands_batch member_at S identity q.root Near;
     at_text = standing.stands_text member_at S identity q.root Near;
-    at-node = standing.stands_node member_at S identity q.root Near;
-    at-reference = standing.stands_reference member_at S identity q.root Near;
-    at-member = standing.stands_member member_at S identity q.root Near keeps;
-    listed-batch = λ d t n g p h e. tt;
-    listed-text = text_near;
-    listed-point = point_near;
-    listed-proxy = λ t y l b. tt;
-    dropped-proxy = λ t y l b. tt;
-    skipped-batch = λ d t n g p h e k. tt;
-    skipped-member = λ d t n r b x y p h e eb k l z. tt;
-    culled-reference = λ t. tt;
-    culled-batch = λ t. tt;
-    detail-cell = λ t. tt;
+    at_node = standing.stands_node member_at S identity q.root Near;
+    at_reference = standing.stands_reference member_at S identity q.root Near;
+    at_member = standing.stands_member member_at S identity q.root Near keeps;
+    listed_batch = λ d t n g p h e. tt;
+    listed_text = text_near;
+    listed_point = point_near;
+    listed_proxy = λ t y l b. tt;
+    dropped_proxy_lem = λ t y l b. tt;
+    skipped_batch_lem = λ d t n g p h e k. tt;
+    skipped_member_lem = λ d t n r b x y p h e eb k l z. tt;
+    culled_reference_lem = λ t. tt;
+    culled_batch_lem = λ t. tt;
+    detail_cell_lem = λ t. tt;
   }
 
   -- of the path, whose references are the tag's

@@ -49,8 +49,8 @@ module _ {PA PB A B : Type 0} (enterA : Step → PA → PA) (enterB : Step → P
   unfolding add_load
   load_sim ta tb y l x s a b k m r =
       cond_sim R (ltb s.load_proxies max_load_proxies)
-      (λ z. say_sim ta tb (proxy y l x) (G.listed-proxy ta y l x) s z a b k m r)
-      (λ z. say_sim ta tb (dropped_proxy y l x) (G.dropped-proxy ta y l x) s z a b k m r)
+      (λ z. say_sim ta tb (proxy y l x) (G.listed_proxy ta y l x) s z a b k m r)
+      (λ z. say_sim ta tb (dropped_proxy y l x) (G.dropped_proxy_lem ta y l x) s z a b k m r)
 
   pub load_if_boxed_sim : (ta : PA) (tb : PB) (y : Reason) (l : ℕ) (x : Bounds) → Keeps R (add_load_if_boxed enterA emitA ta y l x) (add_load_if_boxed enterB emitB tb y l x)
   load_if_boxed_sim ta tb y l Absent s a b k m r = related r
@@ -79,11 +79,11 @@ module _ {PA PB A B : Type 0} (enterA : Step → PA → PA) (enterB : Step → P
       let box = transform_bbox p x.bbox in
       let size = screen_size box q.zoom in
       cond_sim R (hides q x.layer x.data_type) (λ _. related r)
-      (λ _. cond_sim R (not (overlaps box q.view)) (λ _. say_sim ta tb culled_batch (G.culled-batch ta) s tt a b k m r)
-      (λ _. cond_sim R (is_subpixel size) (λ y. say_sim ta tb (skipped_batch box) (G.skipped-batch d ta n x p h e y) s tt a b k m r)
+      (λ _. cond_sim R (not (overlaps box q.view)) (λ _. say_sim ta tb culled_batch (G.culled_batch_lem ta) s tt a b k m r)
+      (λ _. cond_sim R (is_subpixel size) (λ y. say_sim ta tb (skipped_batch box) (G.skipped_batch_lem d ta n x p h e y) s tt a b k m r)
       (λ _. cond_sim R (is_dense_batch size x.element_count) (λ _. load_sim ta tb _ no_label box s a b k m r)
       (λ _. cond_sim R (detail_budget_exhausted q s) (λ _. load_sim ta tb _ no_label box s a b k m r)
-      (λ z. say_sim ta tb (batch n p) (G.listed-batch d ta n x p h e) s z a b k m r)))))
+      (λ z. say_sim ta tb (batch n p) (G.listed_batch d ta n x p h e) s z a b k m r)))))
 
   geometry_sim : (d : ℕ) (ta : PA) (tb : PB) (n : ℕ) (p : Placement) → Stands d ta (Geometry n) p → Keeps R (push_geometry enterA emitA S q ta n p) (push_geometry enterB emitB S q tb n p)
   unfolding push_geometry
@@ -96,7 +96,7 @@ module _ {PA PB A B : Type 0} (enterA : Step → PA → PA) (enterB : Step → P
   found_text_sim d ta tb n p h (some x) e s z a b k m r =
       let v = transform_point2 p x.origin in
       cond_sim R (hides q x.layer x.data_type) (λ _. related r)
-      (λ _. cond_sim R (point_in_bbox v q.view) (λ _. say_sim ta tb (text n v) (G.listed-text d ta n x p h e) s z a b k m r) (λ _. related r))
+      (λ _. cond_sim R (point_in_bbox v q.view) (λ _. say_sim ta tb (text n v) (G.listed_text d ta n x p h e) s z a b k m r) (λ _. related r))
 
   text_sim : (d : ℕ) (ta : PA) (tb : PB) (n : ℕ) (p : Placement) → Stands d ta (Text n) p → (s : ScenePlan) → Budget s → KeepsAt R s (push_text enterA emitA S q ta n p) (push_text enterB emitB S q tb n p)
   unfolding push_text
@@ -109,7 +109,7 @@ module _ {PA PB A B : Type 0} (enterA : Step → PA → PA) (enterB : Step → P
       let v = transform_point2 p (x.point j) in
       cond_flow_sim R (not (point_in_bbox v q.view)) (λ _. goes (related r))
       (λ _. cond_flow_sim R (detail_budget_exhausted q s) (λ _. halts (related r))
-      (λ z. goes (say_sim (enterA (point_at j) ta) (enterB (point_at j) tb) (point x.layer x.node_type v) (G.listed-point d ta n x j p h e j<) s z a b k m r)))
+      (λ z. goes (say_sim (enterA (point_at j) ta) (enterB (point_at j) tb) (point x.layer x.node_type v) (G.listed_point d ta n x j p h e j<) s z a b k m r)))
 
   found_node_sim : (d : ℕ) (ta : PA) (tb : PB) (n : ℕ) (p : Placement) → Stands d ta (Node n) p → (o : Option NodeRecord) → S.node n ≡ o
       → KeepsFlow R (push_found_node enterA emitA S q ta p o) (push_found_node enterB emitB S q tb p o)
@@ -137,19 +137,19 @@ module _ {PA PB A B : Type 0} (enterA : Step → PA → PA) (enterB : Step → P
 
       pub geometry_step_sim : (i : ℕ) → i < c.geometries.count → KeepsFlow R (geometry_step enterA emitA S cells q ta n c p box i) (geometry_step enterB emitB S cells q tb n c p box i)
       unfolding geometry_step
-      geometry_step_sim i i< s a b k m r = step_sim s a b k m r (λ _. goes (geometry_sim d (enterA (batch_at i) ta) (enterB (batch_at i) tb) (c.geometries.at i) p (G.at-batch d ta n c i p h e i<) s a b k m r))
+      geometry_step_sim i i< s a b k m r = step_sim s a b k m r (λ _. goes (geometry_sim d (enterA (batch_at i) ta) (enterB (batch_at i) tb) (c.geometries.at i) p (G.at_batch d ta n c i p h e i<) s a b k m r))
 
       pub text_step_sim : (i : ℕ) → i < c.texts.count → KeepsFlow R (text_step enterA emitA S cells q ta n c p box i) (text_step enterB emitB S cells q tb n c p box i)
       unfolding text_step
-      text_step_sim i i< s a b k m r = step_sim s a b k m r (λ z. goes (text_sim d (enterA (text_at i) ta) (enterB (text_at i) tb) (c.texts.at i) p (G.at-text d ta n c i p h e i<) s z a b k m r))
+      text_step_sim i i< s a b k m r = step_sim s a b k m r (λ z. goes (text_sim d (enterA (text_at i) ta) (enterB (text_at i) tb) (c.texts.at i) p (G.at_text d ta n c i p h e i<) s z a b k m r))
 
       pub node_step_sim : (i : ℕ) → i < c.nodes.count → KeepsFlow R (node_step enterA emitA S cells q ta n c p box i) (node_step enterB emitB S cells q tb n c p box i)
       unfolding node_step
-      node_step_sim i i< s a b k m r = step_sim s a b k m r (λ _. halt_with_cell_sim ta tb n box (node_sim d (enterA (node_at i) ta) (enterB (node_at i) tb) (c.nodes.at i) p (G.at-node d ta n c i p h e i<) s a b k m r))
+      node_step_sim i i< s a b k m r = step_sim s a b k m r (λ _. halt_with_cell_sim ta tb n box (node_sim d (enterA (node_at i) ta) (enterB (node_at i) tb) (c.nodes.at i) p (G.at_node d ta n c i p h e i<) s a b k m r))
 
       pub reference_step_sim : (i : ℕ) → i < c.references.count → KeepsFlow R (reference_step enterA emitA S cells q ta n c p box va i) (reference_step enterB emitB S cells q tb n c p box vb i)
       unfolding reference_step
-      reference_step_sim i i< s a b k m r = step_sim s a b k m r (λ _. goes (hv (enterA (reference_at i) ta) (enterB (reference_at i) tb) (c.references.at i) p (G.at-reference d ta n c i p h e i<) s a b k m r))
+      reference_step_sim i i< s a b k m r = step_sim s a b k m r (λ _. goes (hv (enterA (reference_at i) ta) (enterB (reference_at i) tb) (c.references.at i) p (G.at_reference d ta n c i p h e i<) s a b k m r))
 
       body_sim : KeepsFlow R (cell_body enterA emitA S cells q ta n c p box va) (cell_body enterB emitB S cells q tb n c p box vb)
       unfolding cell_body
@@ -171,7 +171,7 @@ module _ {PA PB A B : Type 0} (enterA : Step → PA → PA) (enterB : Step → P
         (λ _. cond_sim R (is_marked m (open_place cells n)) (λ _. load_if_boxed_sim ta tb _ n box s a b k m r)
         (λ _. apply_sim R (set_mark (open_place cells n) 0) (set_mark (open_place cells n) 0) (λ s a b k m r. related r)
         (ending_sim R (apply_flow_sim R (cell_body enterA emitA S cells q ta n c p box va) (cell_body enterB emitB S cells q tb n c p box vb) (body_sim ta tb n c p box h e)
-        (say_sim ta tb detail_cell (G.detail-cell ta) s tt a b k (set m (open_place cells n) 1) r)))))))
+        (say_sim ta tb detail_cell (G.detail_cell_lem ta) s tt a b k (set m (open_place cells n) 1) r)))))))
 
     pub source_sim : (ta : PA) (tb : PB) (x : PreparedSource) (p : Placement) → Stands d ta x p → (s : ScenePlan) → Budget s → KeepsFlowAt R s (visit_source_with enterA emitA S cells q va ta x p) (visit_source_with enterB emitB S cells q vb tb x p)
     unfolding visit_source_with
@@ -197,8 +197,8 @@ module _ {PA PB A B : Type 0} (enterA : Step → PA → PA) (enterB : Step → P
         let hereA = enterA (member x y) ta in
         let hereB = enterB (member x y) tb in
         cond_flow_sim R (detail_budget_exhausted q s) (λ _. halts (load_sim ta tb _ (label r.source) wb s a b k m o))
-        (λ z. cond_flow_sim R (not (overlaps box q.view)) (λ _. goes (say_sim hereA hereB culled_reference (G.culled-reference hereA) s tt a b k m o))
-        (λ _. cond_flow_sim R (is_subpixel size) (λ i. goes (say_sim hereA hereB (skipped_member (source_is_degenerate sb) box) (G.skipped-member d ta n r sb x y p h e eb x< y< i) s tt a b k m o))
+        (λ z. cond_flow_sim R (not (overlaps box q.view)) (λ _. goes (say_sim hereA hereB culled_reference (G.culled_reference_lem hereA) s tt a b k m o))
+        (λ _. cond_flow_sim R (is_subpixel size) (λ i. goes (say_sim hereA hereB (skipped_member (source_is_degenerate sb) box) (G.skipped_member_lem d ta n r sb x y p h e eb x< y< i) s tt a b k m o))
         (λ _. cond_flow_sim R (collapses (collapse_test size.width size.height 1 u d false)) (λ _. goes (load_sim hereA hereB _ (label r.source) box s a b k m o))
         (λ _. halt_with_member_sim ta hereA tb hereB (label r.source) box wb (hv x y x< y< s z a b k m o)))))
 
@@ -222,7 +222,7 @@ module _ {PA PB A B : Type 0} (enterA : Step → PA → PA) (enterB : Step → P
     boxed_sim r e sb eb Absent s a b k m i = related i
     boxed_sim r e sb eb (Box x₀ y₀ x₁ y₁) s a b k m i =
         let wb = transform_bbox p (bbox x₀ y₀ x₁ y₁) in
-        cond_sim R (not (overlaps wb q.view)) (λ _. say_sim ta tb culled_reference (G.culled-reference ta) s tt a b k m i)
+        cond_sim R (not (overlaps wb q.view)) (λ _. say_sim ta tb culled_reference (G.culled_reference_lem ta) s tt a b k m i)
         (λ _. cond_sim R (detail_cells_full s) (λ _. load_sim ta tb _ (label r.source) wb s a b k m i)
         (λ _. cond_sim R (detail_budget_exhausted q s) (λ _. load_sim ta tb _ (label r.source) wb s a b k m i)
         (λ _. counted_sim d va vb ta tb n r p sb wb h e eb (hv r e) (reference_draw_units S cells d r k m) s a b k m i)))
@@ -245,7 +245,7 @@ module _ {PA PB A B : Type 0} (enterA : Step → PA → PA) (enterB : Step → P
   reference_sim zero ta tb n p h = found_reference_sim 0 (λ t s p w. go w) (λ t s p w. go w) ta tb n p h (λ r e x y x< y< s z a b k m i. goes (related i)) (S.reference n) refl
   reference_sim (suc d) ta tb n p h =
       found_reference_sim (suc d) (visit_source_with enterA emitA S cells q (visit_reference enterA emitA S cells q d)) (visit_source_with enterB emitB S cells q (visit_reference enterB emitB S cells q d)) ta tb n p h
-      (λ r e x y x< y<. source_sim d (visit_reference enterA emitA S cells q d) (visit_reference enterB emitB S cells q d) (reference_sim d) (enterA (member x y) ta) (enterB (member x y) tb) r.source (p · grid_member_transform r.grid x y) (G.at-member d ta n r x y p h e x< y<))
+      (λ r e x y x< y<. source_sim d (visit_reference enterA emitA S cells q d) (visit_reference enterB emitB S cells q d) (reference_sim d) (enterA (member x y) ta) (enterB (member x y) tb) r.source (p · grid_member_transform r.grid x y) (G.at_member d ta n r x y p h e x< y<))
       (S.reference n) refl
 
   pub cell_sim : (d : ℕ) (ta : PA) (tb : PB) (n : ℕ) (p : Placement) → Stands d ta (Cell n) p → Keeps R (visit_cell enterA emitA S cells q d ta n p) (visit_cell enterB emitB S cells q d tb n p)
