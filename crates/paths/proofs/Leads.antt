@@ -33,6 +33,8 @@ module _ {P : Type 0} (member_at : P → PreparedReference → ℕ → ℕ → P
   one_item (at_text {n = n} {T = T} e) (at_text f) = ap (λ (x : PreparedText). a_text n x T) (some_injective (sym e ∙ f))
   one_item (at_point {n = n} {j = j} {T = T} e l) (at_point f m) = ap (λ (x : NodeRecord). a_point n x j T) (some_injective (sym e ∙ f))
   one_item (step {p = p} o l) (step {h = h} q m) = one_item l (same_step p h o q m)
+  one_item {k = k} (at_point {n = n} {j = j} {T = T} e l) (step {u = u} {U = U} q m) = elim q [ ]
+  one_item (step {u = u} {T = T} {U = U} {h = h} o l) (at_point {n = n} {j = j} f m) = elim o [ ]
 
 -- ---- how many members
 
