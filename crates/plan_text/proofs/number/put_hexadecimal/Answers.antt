@@ -1,0 +1,26 @@
+-- `plan_text::number::put_hexadecimal` meets its contract. The loop's invariant: what is written with the digits left is the whole.
+-- Assumes nothing.
+use mathlib.Core.Path.{◌≡◌, refl, ◌∙◌}
+use Prim.Native.Nat.{◌≤◌}
+use native.Mathlib.Omega.{arith}
+use lib.ListN.{length, length-set}
+use lib.Seq.{sets}
+use borrow.Author.Rules.{rules}
+use Rattle.plan_text.specs.Text.{digits, hexadecimal}
+use Rattle.plan_text.proofs.Digits.{digit_written, digits_written}
+use Rattle.plan_text.proofs.number.put_hexadecimal.Goals as goal
+
+pub loop-i-init : goal.loop-i-init
+loop-i-init c = (omega arith, refl, refl)
+
+pub loop-i-preserved : goal.loop-i-preserved
+loop-i-preserved c =
+    let a = c.args in
+    let here = c.loop-i in
+    (omega arith, simp length-set here.invariant.1, digit_written 16 here.i here.rest here.text a.at (omega arith) c.digit.ensures ∙ here.invariant.2)
+
+pub returns : goal.returns
+unfolding hexadecimal
+returns c =
+    let a = c.args in
+    digits_written 16 16 a.n a.text.now a.at c.loop-i.rest (omega arith) c.loop-i.invariant.2 (omega arith)

@@ -1,0 +1,15 @@
+use mathlib.Core.Path.{◌≡◌, refl}
+use Prim.Native.Nat.{◌*◌, ◌-◌, ◌≤◌}
+use native.Mathlib.Omega.{arith}
+use lib.ListN.{length}
+use borrow.Author.Rules.{rules}
+use Rattle.plan_text.specs.Text.{float, each_field}
+use Rattle.plan_text.specs.Written.{Written}
+use Rattle.plan_text.proofs.Pieces.{roomy, nothing, field_written}
+use Rattle.plan_text.proofs.piece.put_floats.Given as goal
+
+abbrev pub invariant-loop-i : goal.invariant-loop-i
+invariant-loop-i l = (l.i ≤ l.count) × (length l.text ≡ length l.initial.text) × Written (17 * l.i) l.initial.text l.at (each_field float l.i l.bytes l.from) l.text l.end
+
+abbrev pub decreases-loop-i : goal.decreases-loop-i
+decreases-loop-i l = l.count - l.i

@@ -1,0 +1,30 @@
+-- `plan_text::piece::put_numbers` meets its contract. The loop's invariant: the fields passed are written.
+-- Assumes nothing.
+use mathlib.Core.Path.{◌≡◌, refl}
+use Prim.Native.Nat.{◌*◌, ◌-◌, ◌≤◌}
+use native.Mathlib.Omega.{arith}
+use lib.ListN.{length}
+use borrow.Author.Rules.{rules}
+use Rattle.plan_text.specs.Text.{number, each_field}
+use Rattle.plan_text.specs.Written.{Written}
+use Rattle.plan_text.proofs.Pieces.{roomy, nothing, field_written}
+use Rattle.plan_text.proofs.piece.put_numbers.Goals as goal
+
+pub loop-i-init : goal.loop-i-init
+unfolding each_field
+loop-i-init c = (omega arith, refl, nothing _ _ _)
+
+pub loop-i-preserved : goal.loop-i-preserved
+loop-i-preserved c =
+    let a = c.args in
+    let here = c.loop-i in
+    (omega arith, omega arith, roomy (omega arith) (field_written number a.bytes.now 21 here.i a.from here.invariant.2 c.u64_at.ensures c.put_number-end.ensures))
+
+pub returns : goal.returns
+returns c =
+    let here = c.loop-i in
+    let e : here.i ≡ c.args.count = omega arith in
+    rw e at here.invariant.2
+
+pub put_number-end-requires : goal.put_number-end-requires
+put_number-end-requires c = omega arith
