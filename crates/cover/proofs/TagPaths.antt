@@ -97,6 +97,7 @@ references_path (k ∷ t) = let a = references_append (path_of t) (k ∷ []) in 
 pub paths_any : (F : Path × Event → Type 0) (l : Tagged) → Any (λ (x : List Step × Event). F (path_of x.0, x.1)) l → Any F (with_paths l)
 paths_any F (x ∷ l) (here h) = here h
 paths_any F (x ∷ l) (before h) = before (paths_any F l h)
+paths_any F [] x' = elim x' [ ]
 
 pub paths_all : (F : Path × Event → Type 0) (l : Tagged) → All (λ (x : List Step × Event). F (path_of x.0, x.1)) l → All F (with_paths l)
 paths_all F [] none_left = none_left

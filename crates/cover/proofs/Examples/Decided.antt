@@ -54,8 +54,8 @@ square_number (fin s m e) h = let k = both (eqb (m * up e) (m * up e / down e * 
 abbrev is_number : Float → Integer → Bool
 is_number x i = is_square_number x && is_equal (integer_of x) i
 
-is_number : (x : Float) (i : Integer) → Yes (is_number x i) → IsInteger x i
-is_number x i h = let k = both (is_square_number x) _ h in integer_same x (integer_of x) i (eqb→eq _ _ k.1) (square_number x k.0).whole
+is_number_lem : (x : Float) (i : Integer) → Yes (is_number x i) → IsInteger x i
+is_number_lem x i h = let k = both (is_square_number x) _ h in integer_same x (integer_of x) i (eqb→eq _ _ k.1) (square_number x k.0).whole
 
 at_most : (a b : Integer) → Yes (is_at_most a b) → a ≼ b
 at_most a b h = leb→le _ _ h
@@ -109,15 +109,15 @@ plus_or_minus_one : (x : Float) → Yes (is_plus_or_minus_one x) → IsInteger x
 plus_or_minus_one x h = by (either (is_number x (integer 1)) _ h)
   where
     by : Yes (is_number x (integer 1)) ⊎ Yes (is_number x (negate (integer 1))) → IsInteger x (integer 1) ⊎ IsInteger x (negate (integer 1))
-    by (inl k) = inl (is_number x (integer 1) k)
-    by (inr k) = inr (is_number x (negate (integer 1)) k)
+    by (inl k) = inl (is_number_lem x (integer 1) k)
+    by (inr k) = inr (is_number_lem x (negate (integer 1)) k)
 
 -- one of the two is 0, and the other 1 or −1
 abbrev is_axis : Float → Float → Bool
 is_axis x y = is_number x (integer 0) && is_plus_or_minus_one y
 
 axis : (x y : Float) → Yes (is_axis x y) → IsInteger x (integer 0) × (IsInteger y (integer 1) ⊎ IsInteger y (negate (integer 1)))
-axis x y h = let k = both (is_number x (integer 0)) _ h in (is_number x (integer 0) k.0, plus_or_minus_one y k.1)
+axis x y h = let k = both (is_number x (integer 0)) _ h in (is_number_lem x (integer 0) k.0, plus_or_minus_one y k.1)
 
 quarter_turn_lem : (c s : Float) → Yes (is_axis c s || is_axis s c) → IsQuarterTurn c s
 quarter_turn_lem c s h = by (either (is_axis c s) _ h)
@@ -144,7 +144,7 @@ square_grid g h =
       origin = square_vector g.origin a.0;
       spacing_x = square_vector g.spacing_x b.0;
       spacing_y = square_vector g.spacing_y c.0;
-      magnification = is_number g.magnification (integer 1) d.0;
+      magnification = is_number_lem g.magnification (integer 1) d.0;
       rotation = quarter_turn_lem g.cos g.sin d.1;
     }
 
@@ -205,18 +205,18 @@ abbrev encloses_bounds : Bounds → Bounds → Bool
 encloses_bounds o Absent = true
 encloses_bounds o (Box a b c d) = encloses o (box_of (bbox a b c d))
 
-encloses_bounds : (o z : Bounds) → Yes (encloses_bounds o z) → EnclosesBounds o z
-encloses_bounds o Absent h = tt
-encloses_bounds o (Box a b c d) h = encloses_it o (box_of (bbox a b c d)) h
+encloses_bounds_lem : (o z : Bounds) → Yes (encloses_bounds o z) → EnclosesBounds o z
+encloses_bounds_lem o Absent h = tt
+encloses_bounds_lem o (Box a b c d) h = encloses_it o (box_of (bbox a b c d)) h
 
 -- the same where each lies inside the other
 abbrev is_there : Bounds → IntegerBox → Bool
 is_there Absent z = false
 is_there (Box a b c d) z = is_inside (box_of (bbox a b c d)) z && is_inside z (box_of (bbox a b c d))
 
-is_there : (o : Bounds) (z : IntegerBox) → Yes (is_there o z) → IsThere o z
-is_there Absent z h = h
-is_there (Box a b c d) z h =
+is_there_lem : (o : Bounds) (z : IntegerBox) → Yes (is_there o z) → IsThere o z
+is_there_lem Absent z h = h
+is_there_lem (Box a b c d) z h =
     let w = box_of (bbox a b c d) in
     let k = both (is_inside w z) _ h in
     encloses_both w z (inside w z k.0) (inside z w k.1)
@@ -226,11 +226,11 @@ same_bounds Absent Absent = true
 same_bounds (Box a b c d) Absent = false
 same_bounds o (Box a b c d) = is_there o (box_of (bbox a b c d))
 
-same_bounds : (o z : Bounds) → Yes (same_bounds o z) → SameBounds o z
-same_bounds Absent Absent h = tt
-same_bounds (Box a b c d) Absent h = h
-same_bounds Absent (Box a b c d) h = h
-same_bounds (Box x y z w) (Box a b c d) h = is_there (Box x y z w) (box_of (bbox a b c d)) h
+same_bounds_lem : (o z : Bounds) → Yes (same_bounds o z) → SameBounds o z
+same_bounds_lem Absent Absent h = tt
+same_bounds_lem (Box a b c d) Absent h = h
+same_bounds_lem Absent (Box a b c d) h = h
+same_bounds_lem (Box x y z w) (Box a b c d) h = is_there_lem (Box x y z w) (box_of (bbox a b c d)) h
 
 -- ---- a node's least box: it holds every point, and each of its sides has one
 
@@ -281,8 +281,8 @@ least_bounds (Box a b c d) x h = least_box x (box_of (bbox a b c d)) h
 abbrev encloses_batch : Bounds → PreparedGeometry → Bool
 encloses_batch o g = eqb g.element_count 0 || encloses o (box_of g.bbox)
 
-encloses_batch : (o : Bounds) (g : PreparedGeometry) → Yes (encloses_batch o g) → 0 < g.element_count → Encloses o (box_of g.bbox)
-encloses_batch o g h there = by (either (eqb g.element_count 0) _ h)
+encloses_batch_lem : (o : Bounds) (g : PreparedGeometry) → Yes (encloses_batch o g) → 0 < g.element_count → Encloses o (box_of g.bbox)
+encloses_batch_lem o g h there = by (either (eqb g.element_count 0) _ h)
   where
     by : Yes (eqb g.element_count 0) ⊎ Yes (encloses o (box_of g.bbox)) → Encloses o (box_of g.bbox)
     by (inl k) = let e : g.element_count ≡ 0 = eqb→eq _ _ k in absurd (let y : ⊥ = omega arith in y)
@@ -319,10 +319,10 @@ module _ (S : Sheet) where
             (of_every_below (λ (j : ℕ). encloses c.bbox (point_box (vector_of (x.point j)))) x.count
             (of_there (encloses_points c.bbox) (S.node (c.nodes.at i)) x (of_every_below (λ (i : ℕ). if_there (encloses_points c.bbox) (S.node (c.nodes.at i))) c.nodes.count p.0 i i<) e) j j<);
         batches = λ i g i< e there.
-            encloses_batch c.bbox g
+            encloses_batch_lem c.bbox g
             (of_there (encloses_batch c.bbox) (S.geometry (c.geometries.at i)) g (of_every_below (λ (i : ℕ). if_there (encloses_batch c.bbox) (S.geometry (c.geometries.at i))) c.geometries.count b.0 i i<) e) there;
         references = λ i r i< e.
-            encloses_bounds c.bbox (reference_bounds r r.source_bbox)
+            encloses_bounds_lem c.bbox (reference_bounds r r.source_bbox)
             (of_there (encloses_reference c.bbox) (S.reference (c.references.at i)) r (of_every_below (λ (i : ℕ). if_there (encloses_reference c.bbox) (S.reference (c.references.at i))) c.references.count b.1 i i<) e);
       }
 
@@ -334,12 +334,12 @@ module _ (S : Sheet) where
   is_true_source_box o (Reference n) = if_there (λ (r : PreparedReference). same_bounds o (reference_bounds r r.source_bbox)) (S.reference n)
 
   true_source_box : (o : Bounds) (x : PreparedSource) → Yes (is_true_source_box o x) → TrueSourceBox S o x
-  true_source_box o (Cell n) h = same_bounds o (cell_bounds (S.cell n)) h
-  true_source_box o (Geometry n) h = λ g e there. encloses_batch o g (of_there (encloses_batch o) (S.geometry n) g h e) there
-  true_source_box o (Text n) h = λ x e. is_there o (point_box (vector_of x.origin)) (of_there (λ (x : PreparedText). is_there o (point_box (vector_of x.origin))) (S.text n) x h e)
+  true_source_box o (Cell n) h = same_bounds_lem o (cell_bounds (S.cell n)) h
+  true_source_box o (Geometry n) h = λ g e there. encloses_batch_lem o g (of_there (encloses_batch o) (S.geometry n) g h e) there
+  true_source_box o (Text n) h = λ x e. is_there_lem o (point_box (vector_of x.origin)) (of_there (λ (x : PreparedText). is_there o (point_box (vector_of x.origin))) (S.text n) x h e)
   true_source_box o (Node n) h = λ x e. least_bounds o x (of_there (is_least_bounds o) (S.node n) x h e)
   true_source_box o (Reference n) h = λ r e.
-      same_bounds o (reference_bounds r r.source_bbox) (of_there (λ (r : PreparedReference). same_bounds o (reference_bounds r r.source_bbox)) (S.reference n) r h e)
+      same_bounds_lem o (reference_bounds r r.source_bbox) (of_there (λ (r : PreparedReference). same_bounds o (reference_bounds r r.source_bbox)) (S.reference n) r h e)
 
 abbrev pub has_true_boxes : List ℕ → Bool
 has_true_boxes s =

@@ -243,6 +243,7 @@ module _ (S : Sheet) (cells : ℕ) (q : Query) where
 same_tag : (t : List Step) (l : Tagged) → Any (λ (y : Path × Event). IsRecord y.1 × (y.0 ≡ path_of t)) (with_paths l) → Recorded t l
 same_tag t (x ∷ l) (here k) = here (k.0, path_injective x.0 t k.1)
 same_tag t (x ∷ l) (before r) = before (same_tag t l r)
+same_tag t [] x' = elim x' [ ]
 
 pub no_path_twice : (l : Tagged) → Once l → NoPathTwice (with_paths l)
 no_path_twice [] o = tt
