@@ -23,11 +23,11 @@ pub lowest_two : (d : List ℕ) (at n : ℕ) {r : List ℕ} → r ≡ sets d at 
 lowest_two d at n w = w ∙ ap (sets d at) (uint_bytes_mod 2 n)
 
 module _ (fs : List Field) (o : List ℕ) (at : ℕ) {room : Bool} (tested : room ≡ leb (at + widths fs) (length o)) where
-  pub within : not room ≡ false → at + widths fs ≤ length o
-  within h = leb-true _ _ (sym tested ∙ not-false room h)
+  pub within : room ≡ true → at + widths fs ≤ length o
+  within h = leb-true _ _ (sym tested ∙ h)
 
-  pub written : {r : List ℕ} → not room ≡ false → r ≡ sets o at (record_bytes fs) → r ≡ put_record o at fs
+  pub written : {r : List ℕ} → room ≡ true → r ≡ sets o at (record_bytes fs) → r ≡ put_record o at fs
   written h w = w ∙ sym (put_fits o at fs (within h))
 
-  pub left_alone : not room ≡ true → o ≡ put_record o at fs
-  left_alone h = sym (put_not o at fs (leb-false _ _ (sym tested ∙ not-true room h)))
+  pub left_alone : room ≡ false → o ≡ put_record o at fs
+  left_alone h = sym (put_not o at fs (leb-false _ _ (sym tested ∙ h)))

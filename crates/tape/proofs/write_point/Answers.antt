@@ -1,0 +1,21 @@
+-- `tape::write_point` meets its contract: the record is written if it fits, and the tape's end grows in any case.
+-- Assumes nothing.
+use Rattle.plan_rules.specs.Event.{point, fields_of}
+use Rattle.tape.proofs.Room.{within, written, left_alone}
+use borrow.Author.Rules.{rules}
+use Rattle.tape.proofs.write_point.Goals as goal
+
+pub returns-then-not-has_room : goal.returns-then-not-has_room
+returns-then-not-has_room c =
+    let a = c.args in
+    (left_alone (fields_of (point a.layer a.node_type a.position)) a.out.now a.at c.has_room.ensures c.if-not-has_room.true, c.saturating_add-end.ensures)
+
+pub put_point-requires : goal.put_point-requires
+put_point-requires c =
+    let a = c.args in
+    within (fields_of (point a.layer a.node_type a.position)) a.out.now a.at c.has_room.ensures c.if-not-has_room.false
+
+pub returns : goal.returns
+returns c =
+    let a = c.args in
+    (written (fields_of (point a.layer a.node_type a.position)) a.out.now a.at c.has_room.ensures c.if-not-has_room.false c.put_point.ensures, c.saturating_add-end.ensures)

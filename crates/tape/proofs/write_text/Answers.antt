@@ -1,0 +1,21 @@
+-- `tape::write_text` meets its contract: the record is written if it fits, and the tape's end grows in any case.
+-- Assumes nothing.
+use Rattle.plan_rules.specs.Event.{text, fields_of}
+use Rattle.tape.proofs.Room.{within, written, left_alone}
+use borrow.Author.Rules.{rules}
+use Rattle.tape.proofs.write_text.Goals as goal
+
+pub returns-then-not-has_room : goal.returns-then-not-has_room
+returns-then-not-has_room c =
+    let a = c.args in
+    (left_alone (fields_of (text a.number a.position)) a.out.now a.at c.has_room.ensures c.if-not-has_room.true, c.saturating_add-end.ensures)
+
+pub put_text-requires : goal.put_text-requires
+put_text-requires c =
+    let a = c.args in
+    within (fields_of (text a.number a.position)) a.out.now a.at c.has_room.ensures c.if-not-has_room.false
+
+pub returns : goal.returns
+returns c =
+    let a = c.args in
+    (written (fields_of (text a.number a.position)) a.out.now a.at c.has_room.ensures c.if-not-has_room.false c.put_text.ensures, c.saturating_add-end.ensures)
