@@ -62,27 +62,27 @@ module _ (s : List ℕ) where
 
 -- `whole`: what `is_query` answered
 module _ (s h : List ℕ) {b : Bool} (whole : b ≡ whole_query s) where
-  pub no_query : not b ≡ true → ◌≡◌ {A = FirstRecord × List ℕ} (NoQuery, h) (read_query s h)
+  pub no_query : b ≡ false → ◌≡◌ {A = FirstRecord × List ℕ} (NoQuery, h) (read_query s h)
   unfolding read_query
-  no_query t = rw (← whole, not-true b t)
+  no_query t = rw (← whole, t)
 
-  module _ (t : not b ≡ false) {n : ℕ} (read : n ≡ length_at s 0) where
+  module _ (t : b ≡ true) {n : ℕ} (read : n ≡ length_at s 0) where
     pub has_length : query_length ≤ n
     unfolding whole_query
     has_length =
         rw read
         (leb-true _ _
         (second_true (leb query_length (length s)) (leb query_length (length_at s 0)) (leb (length_at s 0) (length s)) (eqb ((length_at s 0 - query_length) % 4) 0) (eqb (kind_at s 0) query_kind)
-        (sym whole ∙ not-false b t)))
+        (sym whole ∙ t)))
 
     pub too_long : length h < (n - query_length) / 4 → ◌≡◌ {A = FirstRecord × List ℕ} (TooLong, h) (read_query s h)
     unfolding read_query hidden_count
-    too_long k = rw (← whole, not-false b t, ← read, lt-leb _ _ k)
+    too_long k = rw (← whole, t, ← read, lt-leb _ _ k)
 
     pub query_read : {o : SceneOptions} {e : List ℕ} → (n - query_length) / 4 ≤ length h → e ≡ sets h 0 (layers_from ((n - query_length) / 4) s query_length) → o ≡ options_at s
         → ◌≡◌ {A = FirstRecord × List ℕ} (Query (record { options = o; hidden = (n - query_length) / 4; sheet = n }), e) (read_query s h)
     unfolding read_query query_record hidden_layers hidden_count
-    query_read k copied options = rw (← whole, not-false b t, ← read, le-leb _ _ k, copied, options)
+    query_read k copied options = rw (← whole, t, ← read, le-leb _ _ k, copied, options)
 
 -- ---- for those who go on with the query
 
@@ -121,10 +121,10 @@ module _ (s h : List ℕ) {q : QueryRecord} {h' : List ℕ} where
 -- ---- where the sheet begins, with or without a query
 
 module _ (s : List ℕ) {b : Bool} (whole : b ≡ whole_query s) where
-  pub sheet_alone : not b ≡ true → (0 ≡ sheet_at s) × (0 ≤ length s)
+  pub sheet_alone : b ≡ false → (0 ≡ sheet_at s) × (0 ≤ length s)
   unfolding sheet_at
-  sheet_alone t = (rw (← whole, not-true b t), omega arith)
+  sheet_alone t = (rw (← whole, t), omega arith)
 
-  pub sheet_behind : not b ≡ false → {n : ℕ} → n ≡ length_at s 0 → (n ≡ sheet_at s) × (n ≤ length s)
+  pub sheet_behind : b ≡ true → {n : ℕ} → n ≡ length_at s 0 → (n ≡ sheet_at s) × (n ≤ length s)
   unfolding sheet_at
-  sheet_behind t {n} read = (rw (← whole, not-false b t, read), omega (arith, read, whole_past s (sym whole ∙ not-false b t)))
+  sheet_behind t {n} read = (rw (← whole, t, read), omega (arith, read, whole_past s (sym whole ∙ t)))

@@ -1,0 +1,8 @@
+-- `plan_query::options_at` meets its contract. Assumes nothing.
+use borrow.Author.Rules.{rules}
+use Rattle.plan_query.specs.Query.{options_at}
+use Rattle.plan_query.proofs.options_at.Goals as goal
+
+pub returns : goal.returns
+unfolding options_at
+returns c = cc

@@ -1,0 +1,6 @@
+-- `scratch::memory::cache_get` meets its contract. Assumes nothing.
+use borrow.Author.Rules.{rules}
+use Rattle.scratch.proofs.memory.cache_get.Goals as goal
+
+pub returns : goal.returns
+returns c = rw (← c.count_place.ensures) c.count_at.ensures
