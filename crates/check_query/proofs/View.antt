@@ -9,30 +9,30 @@ use Rattle.geometry.specs.declared.bbox.WorldBBox.{WorldBBox}
 use Rattle.plan_rules.specs.Questions.{view_ok}
 
 module _ (v : WorldBBox) {a : Bool} (min-x : a ≡ is_finite v.min_x) where
-  pub infinite_min_x : not a ≡ true → false ≡ view_ok v
+  pub infinite_min_x : a ≡ false → false ≡ view_ok v
   unfolding view_ok
-  infinite_min_x h = rw (← min-x, not-true a h)
+  infinite_min_x h = rw (← min-x, h)
 
-  module _ {b : Bool} (min-x-finite : not a ≡ false) (min-y : b ≡ is_finite v.min_y) where
-    pub infinite_min_y : not b ≡ true → false ≡ view_ok v
+  module _ {b : Bool} (min-x-finite : a ≡ true) (min-y : b ≡ is_finite v.min_y) where
+    pub infinite_min_y : b ≡ false → false ≡ view_ok v
     unfolding view_ok
-    infinite_min_y h = rw (← min-x, ← min-y, not-false a min-x-finite, not-true b h)
+    infinite_min_y h = rw (← min-x, ← min-y, min-x-finite, h)
 
-    module _ {c : Bool} (min-y-finite : not b ≡ false) (max-x : c ≡ is_finite v.max_x) where
-      pub infinite_max_x : not c ≡ true → false ≡ view_ok v
+    module _ {c : Bool} (min-y-finite : b ≡ true) (max-x : c ≡ is_finite v.max_x) where
+      pub infinite_max_x : c ≡ false → false ≡ view_ok v
       unfolding view_ok
-      infinite_max_x h = rw (← min-x, ← min-y, ← max-x, not-false a min-x-finite, not-false b min-y-finite, not-true c h)
+      infinite_max_x h = rw (← min-x, ← min-y, ← max-x, min-x-finite, min-y-finite, h)
 
-      module _ {d : Bool} (max-x-finite : not c ≡ false) (max-y : d ≡ is_finite v.max_y) where
-        pub infinite_max_y : not d ≡ true → false ≡ view_ok v
+      module _ {d : Bool} (max-x-finite : c ≡ true) (max-y : d ≡ is_finite v.max_y) where
+        pub infinite_max_y : d ≡ false → false ≡ view_ok v
         unfolding view_ok
-        infinite_max_y h = rw (← min-x, ← min-y, ← max-x, ← max-y, not-false a min-x-finite, not-false b min-y-finite, not-false c max-x-finite, not-true d h)
+        infinite_max_y h = rw (← min-x, ← min-y, ← max-x, ← max-y, min-x-finite, min-y-finite, max-x-finite, h)
 
-        module _ (max-y-finite : not d ≡ false) where
-          pub turned_x : not (le v.min_x v.max_x) ≡ true → false ≡ view_ok v
+        module _ (max-y-finite : d ≡ true) where
+          pub turned_x : (le v.min_x v.max_x) ≡ false → false ≡ view_ok v
           unfolding view_ok
-          turned_x h = rw (← min-x, ← min-y, ← max-x, ← max-y, not-false a min-x-finite, not-false b min-y-finite, not-false c max-x-finite, not-false d max-y-finite, not-true (le v.min_x v.max_x) h)
+          turned_x h = rw (← min-x, ← min-y, ← max-x, ← max-y, min-x-finite, min-y-finite, max-x-finite, max-y-finite, h)
 
-          pub order_y_decides : not (le v.min_x v.max_x) ≡ false → le v.min_y v.max_y ≡ view_ok v
+          pub order_y_decides : (le v.min_x v.max_x) ≡ true → le v.min_y v.max_y ≡ view_ok v
           unfolding view_ok
-          order_y_decides h = rw (← min-x, ← min-y, ← max-x, ← max-y, not-false a min-x-finite, not-false b min-y-finite, not-false c max-x-finite, not-false d max-y-finite, not-false (le v.min_x v.max_x) h)
+          order_y_decides h = rw (← min-x, ← min-y, ← max-x, ← max-y, min-x-finite, min-y-finite, max-x-finite, max-y-finite, h)
