@@ -2,7 +2,7 @@
 -- Definitions only; rests on the rules at the code's end.
 use Rattle.std.specs.Prelude.{◌≡◌, cond, List, ℕ}
 use Rattle.std.proofs.Math.Option.{some}
-use Rattle.std.specs.Borrow.{Bor}
+use Rattle.std.specs.Borrow.{MutBor}
 use Rattle.geometry.specs.declared.bbox.Bounds.{Bounds}
 use Rattle.geometry.specs.declared.placement.Placement.{Placement}
 use Rattle.abstract_sheet.specs.Sheet.{CellRecord}
@@ -23,7 +23,7 @@ module _ {f : Fixed} (g : Given f) where
 
 -- What the step promises of a cell by its box, from the output and marks (before) to those that it leaves: whatever a plan is given and the way to visit
 -- on, what is left to do is the visit from the step on.
-abbrev pub EntersCell : Fixed → ℕ → Bounds → Placement → Entered → Bor (List ℕ) → Bor (List ℕ) → ScenePlan → Bor (List ℕ) → Bor (List ℕ) → Type 0
+abbrev pub EntersCell : Fixed → ℕ → Bounds → Placement → Entered → MutBor (List ℕ) → MutBor (List ℕ) → ScenePlan → MutBor (List ℕ) → MutBor (List ℕ) → Type 0
 EntersCell f n bbox p r out marks plan outBefore marksBefore =
     (g : Given f) (on : VisitReference g) (c : CellRecord) (k : List ℕ) → c.bbox ≡ bbox
     → left_of_cell g on n c p r (world r.plan out.now k marks.now) ≡ found_cell g on n c p (world plan outBefore.now k marksBefore.now)

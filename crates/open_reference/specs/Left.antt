@@ -1,7 +1,7 @@
 -- A reference that is there: its visit from here on, and what is left of it after `open_reference`, for any way to visit on.
 -- Definitions only; rests on the rules at the code's end.
 use Rattle.std.specs.Prelude.{◌≡◌, false, cond, List, ℕ}
-use Rattle.std.specs.Borrow.{Bor}
+use Rattle.std.specs.Borrow.{MutBor}
 use Rattle.geometry.specs.declared.bbox.WorldBBox.{WorldBBox}
 use Rattle.geometry.specs.declared.placement.Placement.{Placement}
 use Rattle.screen.specs.declared.CollapseTest.{CollapseTest}
@@ -27,7 +27,7 @@ module _ {f : Fixed} (g : Given f) where
       w
 
 -- What the step promises: whatever a plan is given and the way to visit on, what is left to do is the visit from the step on.
-abbrev pub OpensReference : Fixed → PreparedReference → Placement → Opened → Bor (List ℕ) → ScenePlan → Bor (List ℕ) → Type 0
+abbrev pub OpensReference : Fixed → PreparedReference → Placement → Opened → MutBor (List ℕ) → ScenePlan → MutBor (List ℕ) → Type 0
 OpensReference f r p o out plan outBefore =
     (g : Given f) (on : VisitSource g) (depth : ℕ) (k m : List ℕ)
     → left_of_reference g on depth r p o (world o.plan out.now k m) ≡ found_reference g on depth r p (world plan outBefore.now k m)

@@ -3,7 +3,7 @@
 -- Definitions only; rests on the rules and on what a reference denotes.
 use Rattle.std.specs.Prelude.{◌≡◌, Bool, List, ℕ, zero, suc}
 use Rattle.std.proofs.Math.Option.{Option}
-use Rattle.std.specs.Borrow.{Bor}
+use Rattle.std.specs.Borrow.{Bor, MutBor}
 use Rattle.geometry.specs.declared.bbox.WorldBBox.{WorldBBox}
 use Rattle.geometry.specs.declared.bbox.Bounds.{Bounds}
 use Rattle.geometry.specs.declared.placement.Placement.{Placement}
@@ -51,21 +51,21 @@ abbrev pub Output : Type 0
 Output = World (List ℕ)
 
 -- the plan, and what stands in the lent output, counts and marks
-abbrev pub lent : ScenePlan → Bor (List ℕ) → Bor (List ℕ) → Bor (List ℕ) → Output
+abbrev pub lent : ScenePlan → MutBor (List ℕ) → MutBor (List ℕ) → MutBor (List ℕ) → Output
 lent s out counts marks = world s out.now counts.now marks.now
 
 -- a call that is not lent the scratch: whatever stands there, it leaves what the definition does
-abbrev pub Leaves : ScenePlan → Bor (List ℕ) → (Output → Output) → ScenePlan → Bor (List ℕ) → Type 0
+abbrev pub Leaves : ScenePlan → MutBor (List ℕ) → (Output → Output) → ScenePlan → MutBor (List ℕ) → Type 0
 Leaves r out definition s before = (k m : List ℕ) → world r out.now k m ≡ definition (world s before.now k m)
 
 -- the same of a call that also answers whether the visit goes on
-abbrev pub LeavesFlow : Bool → ScenePlan → Bor (List ℕ) → (Output → Flow (List ℕ)) → ScenePlan → Bor (List ℕ) → Type 0
+abbrev pub LeavesFlow : Bool → ScenePlan → MutBor (List ℕ) → (Output → Flow (List ℕ)) → ScenePlan → MutBor (List ℕ) → Type 0
 LeavesFlow whole r out definition s before = (k m : List ℕ) → flow whole (world r out.now k m) ≡ definition (world s before.now k m)
 
 -- ---- a whole call
 
 -- what it answered, and what stands in the lent output, counts and marks after it
-abbrev pub answers : Answer → Bor (List ℕ) → Bor (List ℕ) → Bor (List ℕ) → outcome.Outcome
+abbrev pub answers : Answer → MutBor (List ℕ) → MutBor (List ℕ) → MutBor (List ℕ) → outcome.Outcome
 answers a out counts marks = outcome.outcome a out.now counts.now marks.now
 
 -- its query: the options, the hidden layers, and document 01's object limit
@@ -73,7 +73,7 @@ abbrev pub asked : SceneOptions → List ℕ → Query
 asked options hidden = query_of options hidden max_scene_objects
 
 -- what the rules have it answer and leave, of a sheet, the options and the hidden layers
-abbrev pub plan_outcome : Bor (List ℕ) → SceneOptions → Bor (List ℕ) → Bor (List ℕ) → Bor (List ℕ) → Bor (List ℕ) → outcome.Outcome
+abbrev pub plan_outcome : Bor (List ℕ) → SceneOptions → Bor (List ℕ) → MutBor (List ℕ) → MutBor (List ℕ) → MutBor (List ℕ) → outcome.Outcome
 plan_outcome sheet options hidden out counts marks = outcome.outcome_of sheet.now (asked options hidden.now) out.now counts.now marks.now
 
 -- ---- events and proxies

@@ -2,7 +2,7 @@
 -- The contract of `plan_with_finder` equates a call to `outcome_with`.
 -- Definitions only; rests on the rules' outcome of a call and on which lists belong to a sheet.
 use Rattle.std.specs.Prelude.{cond, List, ℕ, length, replicate}
-use Rattle.std.specs.Borrow.{Bor}
+use Rattle.std.specs.Borrow.{Bor, MutBor}
 use Rattle.abstract_sheet.specs.Sheet.{sheet_of}
 use Rattle.check_sheet.specs.declared.Checked.{Checked}
 use Rattle.check_sheet.specs.declared.Checked.TheVariants as checked
@@ -32,6 +32,6 @@ abbrev pub outcome_with : List ℕ → List ℕ → Query → List ℕ → List 
 outcome_with = outcome_with_up_to max_depth
 
 -- the same of what a call is lent
-abbrev pub finder_outcome : Bor (List ℕ) → Bor (List ℕ) → SceneOptions → Bor (List ℕ) → Bor (List ℕ) → Bor (List ℕ) → Bor (List ℕ) → Outcome
+abbrev pub finder_outcome : Bor (List ℕ) → Bor (List ℕ) → SceneOptions → Bor (List ℕ) → MutBor (List ℕ) → MutBor (List ℕ) → MutBor (List ℕ) → Outcome
 finder_outcome sheet finder options hidden out counts marks =
     outcome_with sheet.now finder.now (asked options hidden.now) out.now counts.now marks.now

@@ -1,7 +1,7 @@
 -- Member i of a reference, which stands in column i / rows and row i % rows: its turn, and what is left of it after `try_member`, for any way to visit on.
 -- Definitions only; rests on the rules at the code's end.
 use Rattle.std.specs.Prelude.{◌≡◌, cond, List, ℕ, ◌/◌, ◌%◌}
-use Rattle.std.specs.Borrow.{Bor}
+use Rattle.std.specs.Borrow.{MutBor}
 use Rattle.geometry.specs.declared.bbox.WorldBBox.{WorldBBox}
 use Rattle.geometry.specs.declared.placement.Placement.{Placement}
 use Rattle.records.specs.declared.PreparedReference.{PreparedReference}
@@ -22,7 +22,7 @@ module _ {f : Fixed} (g : Given f) where
 
 -- What the step promises, by the boxes and a member's share of the draw units: whatever a plan is given and the way to visit on, what is left to do is the
 -- turn from the step on.
-abbrev pub TriesMember : Fixed → PreparedReference → Placement → WorldBBox → WorldBBox → ℕ → ℕ → ℕ → Tried → Bor (List ℕ) → ScenePlan → Bor (List ℕ) → Type 0
+abbrev pub TriesMember : Fixed → PreparedReference → Placement → WorldBBox → WorldBBox → ℕ → ℕ → ℕ → Tried → MutBor (List ℕ) → ScenePlan → MutBor (List ℕ) → Type 0
 TriesMember f r p sourceBox world_box units i depth t out plan outBefore =
     (g : Given f) (on : VisitSource g) (k m : List ℕ)
     → left_of_member g on r world_box t (world t.plan out.now k m) ≡ member g on depth r p sourceBox world_box units i (world plan outBefore.now k m)

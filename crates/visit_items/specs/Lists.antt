@@ -1,7 +1,7 @@
 -- Lists of numbers, and the loops of `visit_cell` for a cell that is open, at the code's end of the rules.
 -- Definitions only; rests on the rules.
 use Rattle.std.specs.Prelude.{◌≡◌, cond, List, ℕ, zero, suc, ◌+◌}
-use Rattle.std.specs.Borrow.{Bor}
+use Rattle.std.specs.Borrow.{Bor, MutBor}
 use Rattle.geometry.specs.declared.placement.Placement.{Placement}
 use Rattle.abstract_sheet.specs.Sheet.{CellRecord, cell_record_with}
 use Rattle.plan_rules.specs.declared.ScenePlan.{ScenePlan}
@@ -62,7 +62,7 @@ module _ {f : Fixed} (g : Given f) (c : OpenCell) (x : CellRecord) where
   visit_lists on w = ending (cell_body g c.number x c.transform c.bounds on w)
 
 -- what `push_items` promises: whatever the way to visit on and the scratch, its references, visited, leave what all its lists leave
-abbrev pub LeavesReferences : Bor (List ℕ) → Bor (List ℕ) → Fixed → Bor (List ℕ) → OpenCell → Listed → Bor (List ℕ) → ScenePlan → Bor (List ℕ) → Type 0
+abbrev pub LeavesReferences : Bor (List ℕ) → Bor (List ℕ) → Fixed → Bor (List ℕ) → OpenCell → Listed → MutBor (List ℕ) → ScenePlan → MutBor (List ℕ) → Type 0
 LeavesReferences sheet finder f hidden c r out plan outBefore =
     (on : VisitReference (given f sheet finder hidden)) (k m : List ℕ)
     → visit_references (given f sheet finder hidden) c (opened sheet.now c) on r.references (world r.plan out.now k m)
