@@ -4,7 +4,7 @@
  * refusal the question that was answered "no" goes to standard error. The status is 0 where an answer was printed, be
  * it a refusal; 1 where reading, writing or memory failed; 2 for wrong arguments.
  *
- *     gcc -std=c99 -O2 -Iinclude include/example.c target/staticlib/libplanner_c.a -o example
+ *     gcc -std=c99 -O2 -Iinclude include/example.c crates/planner_c/out/libplanner_c.a -o example
  */
 #include "ribaltzen.h"
 #include "ribaltzen_tape.h"

@@ -1,6 +1,6 @@
 /* Ribaltzen: the scene planner for C programs.
  *
- * Link target/staticlib/libplanner_c.a, which `rt staticlib planner_c` writes (x86-64 Linux). Its three functions are
+ * Link crates/planner_c/out/libplanner_c.a, which `tools/built planner_c` makes (x86-64 Linux). Its three functions are
  * proved to end, to read and write only what is lent, and to answer as documents 01 and 02 say, for any bytes, any
  * query and any lent memory. That proof is about callers that keep to this page. The inline functions here and in
  * ribaltzen_tape.h, which reads a tape, are tested, not proved.

@@ -4,7 +4,7 @@
 //! The source is found by GDSR_SOURCE, else at ../../shared/docs/src beside the repository. Where it is absent the
 //! build goes on without a planner, and every subcommand that plans says so.
 //! With the feature `library` the static libraries of the Rattle planner are linked, from RIBALTZEN_LIBRARY or else
-//! from ../target/staticlib, where `rt staticlib` writes them.
+//! from ../crates/NAME/out, where `tools/built` makes them.
 
 #[allow(dead_code)]
 #[path = "src/edits/mod.rs"]
@@ -63,10 +63,10 @@ fn main() {
 /// The planner, and the check of a sheet alone, which `race` times apart.
 fn link_library(package: &Path) {
     println!("cargo::rerun-if-env-changed=RIBALTZEN_LIBRARY");
-    let folder = env::var("RIBALTZEN_LIBRARY")
-        .map_or_else(|_| package.join("../target/staticlib"), PathBuf::from);
-    println!("cargo::rustc-link-search=native={}", folder.display());
     for name in ["planner_c", "check_sheet_c"] {
+        let folder = env::var("RIBALTZEN_LIBRARY")
+            .map_or_else(|_| package.join(format!("../crates/{name}/out")), PathBuf::from);
+        println!("cargo::rustc-link-search=native={}", folder.display());
         println!("cargo::rerun-if-changed={}", folder.join(format!("lib{name}.a")).display());
         println!("cargo::rustc-link-lib=static={name}");
     }

@@ -1,5 +1,5 @@
-//! Links libplanner_c.a, which `rt staticlib planner_c` writes: from the folder that RIBALTZEN_LIBRARY names, else from
-//! ../target/staticlib. Ends the build with a message where the archive cannot be linked.
+//! Links libplanner_c.a, which `tools/built planner_c` makes: from the folder that RIBALTZEN_LIBRARY names, else from
+//! ../crates/planner_c/out. Ends the build with a message where the archive cannot be linked.
 
 use std::env;
 use std::path::{Path, PathBuf};
@@ -23,7 +23,7 @@ fn main() {
 fn library_folder() -> PathBuf {
     match env::var_os("RIBALTZEN_LIBRARY") {
         Some(folder) => PathBuf::from(folder),
-        None => Path::new(env!("CARGO_MANIFEST_DIR")).join("../target/staticlib"),
+        None => Path::new(env!("CARGO_MANIFEST_DIR")).join("../crates/planner_c/out"),
     }
 }
 
@@ -47,7 +47,7 @@ fn hindrance(folder: &Path) -> Option<String> {
     let library = folder.join("libplanner_c.a");
     (!library.is_file()).then(|| {
         format!(
-            "{} is absent: run `rt staticlib planner_c`, or name its folder in RIBALTZEN_LIBRARY",
+            "{} is absent: run `tools/built planner_c`, or name its folder in RIBALTZEN_LIBRARY",
             library.display()
         )
     })

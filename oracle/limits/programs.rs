@@ -62,7 +62,7 @@ impl Program {
     }
 
     fn printed(&self) -> Vec<u8> {
-        system::printed(self.input.clone(), self.reads, self.writes, plan::main)
+        system::printed(self.input.clone(), self.reads, self.writes, || plan::main(HostRuntime))
     }
 }
 

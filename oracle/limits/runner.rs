@@ -13,6 +13,7 @@ use std::collections::BTreeSet;
 use std::fs;
 use std::panic::{AssertUnwindSafe, catch_unwind};
 use std::sync::atomic::Ordering::Relaxed;
+use stdio::HostRuntime;
 use system::{Faults, NO_FAULTS};
 
 /// What is lent where it is to suffice.
@@ -46,7 +47,8 @@ impl Room {
         let Room { finder, hidden, tape, counts, marks, text } = self;
         let printed = plan_answer::answer(input, finder, hidden, tape, counts, marks);
         system::printed(Vec::new(), NO_FAULTS, NO_FAULTS, || {
-            plan_answer::print_answer(true, text, printed, tape);
+            let mut to = streams::Printer { out: HostRuntime, errors: HostRuntime };
+            plan_answer::print_answer(&mut to, true, text, printed, tape);
         })
     }
 }

@@ -1,7 +1,8 @@
 //! What the translated code calls of the kit and of the system: standard input and output as bytes of this thread, and calls that go wrong.
 
 pub mod system {
-    use std::cell::{Cell, RefCell};
+    use crate::stdio::{Error, Result};
+    use std::cell::RefCell;
 
     /// How the calls on a stream go wrong: those from `first` to `last`, counted from 1, fail with `error`, and the others move
     /// at most so many bytes.
@@ -27,91 +28,126 @@ pub mod system {
             Stream { bytes, done: 0, calls: 0, faults }
         }
 
-        /// How many bytes a call is to move of so many, or `None` where it fails; the error is set then, and only then.
-        fn moves(&mut self, size: usize) -> Option<usize> {
+        /// How many bytes a call is to move of so many, or why it fails.
+        fn moves(&mut self, size: usize) -> Result<usize> {
             self.calls += 1;
             if (self.faults.first..=self.faults.last).contains(&self.calls) {
-                ERROR.set(self.faults.error);
-                return None;
+                return Err(Error::from_raw_os_error(self.faults.error));
             }
-            Some(size.min(self.faults.most))
+            Ok(size.min(self.faults.most))
         }
     }
 
     thread_local! {
         static INPUT: RefCell<Stream> = const { RefCell::new(Stream::new(Vec::new(), NO_FAULTS)) };
         static OUTPUT: RefCell<Stream> = const { RefCell::new(Stream::new(Vec::new(), NO_FAULTS)) };
-        pub static ERROR: Cell<i32> = const { Cell::new(0) };
     }
 
     /// What a run prints.
     pub fn printed(input: Vec<u8>, reads: Faults, writes: Faults, run: impl FnOnce()) -> Vec<u8> {
         INPUT.set(Stream::new(input, reads));
         OUTPUT.set(Stream::new(Vec::new(), writes));
-        ERROR.set(0);
         run();
         OUTPUT.with_borrow_mut(|output| std::mem::take(&mut output.bytes))
     }
 
-    pub fn read(buffer: &mut [u8]) -> isize {
+    pub fn read(buffer: &mut [u8]) -> Result<usize> {
         INPUT.with_borrow_mut(|input| {
-            let Some(most) = input.moves(buffer.len()) else { return -1 };
+            let most = input.moves(buffer.len())?;
             let left = &input.bytes[input.done..];
             let size = left.len().min(most);
             buffer[..size].copy_from_slice(&left[..size]);
             input.done += size;
-            size as isize
+            Ok(size)
         })
     }
 
-    pub fn write(bytes: &[u8]) -> isize {
+    pub fn write(bytes: &[u8]) -> Result<usize> {
         OUTPUT.with_borrow_mut(|output| {
-            let Some(size) = output.moves(bytes.len()) else { return -1 };
+            let size = output.moves(bytes.len())?;
             output.bytes.extend(&bytes[..size]);
-            size as isize
+            Ok(size)
         })
     }
 }
 
-pub mod libc {
-    pub const STDIN_FILENO: i32 = 0;
-    pub const STDOUT_FILENO: i32 = 1;
-    pub const EINTR: i32 = 4;
+/// What stands for `std::io`, whose errors are values of no resource in Rattle, and for the handles that `main` is given.
+pub mod stdio {
+    pub use std::io::ErrorKind;
 
-    pub fn read(_: i32, buffer: &mut [u8]) -> isize {
-        crate::system::read(buffer)
+    #[derive(Clone, Copy)]
+    pub struct Error(i32);
+
+    pub type Result<T> = std::result::Result<T, Error>;
+
+    impl Error {
+        pub fn from_raw_os_error(number: i32) -> Error {
+            Error(number)
+        }
+
+        pub fn kind(&self) -> ErrorKind {
+            std::io::Error::from_raw_os_error(self.0).kind()
+        }
     }
 
-    pub fn write(_: i32, bytes: &[u8]) -> isize {
-        crate::system::write(bytes)
+    pub trait Read {
+        fn read(&mut self, buffer: &mut [u8]) -> Result<usize>;
     }
+
+    pub trait Write {
+        fn write(&mut self, bytes: &[u8]) -> Result<usize>;
+    }
+
+    pub trait Eprint {}
+
+    #[derive(Clone, Copy)]
+    pub struct HostRuntime;
+
+    impl HostRuntime {
+        pub fn stdin(self) -> HostRuntime {
+            self
+        }
+
+        pub fn stdout(self) -> HostRuntime {
+            self
+        }
+
+        pub fn stderr(self) -> HostRuntime {
+            self
+        }
+    }
+
+    impl Read for HostRuntime {
+        fn read(&mut self, buffer: &mut [u8]) -> Result<usize> {
+            crate::system::read(buffer)
+        }
+    }
+
+    impl Write for HostRuntime {
+        fn write(&mut self, bytes: &[u8]) -> Result<usize> {
+            crate::system::write(bytes)
+        }
+    }
+
+    impl Eprint for HostRuntime {}
 }
 
-pub mod os {
-    pub fn errno() -> i32 {
-        crate::system::ERROR.get()
+/// What stands for `reason` of `streams`: a line on standard error, which no limit depends on.
+pub mod reason {
+    use crate::stdio::{Eprint, Error, Result};
+
+    pub fn error_of(got: Result<usize>) -> Error {
+        got.err().unwrap_or(Error::from_raw_os_error(0))
     }
 
-    /// A line on standard error, which no limit depends on.
-    pub fn fail(_: &[u8]) {}
+    pub fn fail<E: Eprint>(_: &E, _: &str, _: Error) {}
 }
 
 pub mod io {
-    pub fn count(got: isize, bytes: &[u8]) -> usize {
-        usize::try_from(got).unwrap_or(0).min(bytes.len())
-    }
-
     pub fn decimal(n: u64, text: &mut [u8; 20]) -> usize {
         let digits = n.to_string();
         text[..digits.len()].copy_from_slice(digits.as_bytes());
         digits.len()
-    }
-}
-
-pub mod bytes {
-    pub fn copy(from: &[u8], to: &mut [u8]) -> usize {
-        to[..from.len()].copy_from_slice(from);
-        from.len()
     }
 }
 

@@ -1,6 +1,6 @@
 """Reads the planner's Rattle code as Rust, with a switch at every limit test.
 
-Rattle code without its contracts is Rust code, so one file of Rust holds the crates as modules. A *place* is a comparison, an
+Rattle code without its contracts and attributes is Rust code, so one file of Rust holds the crates as modules. A *place* is a comparison, an
 integer `match`, or a number of the crates whose numbers are themselves limits. Each place has two changes by one; the switch
 picks one change of one place, or none, and for a test that is called from several places one of these calls, or all.
 """
@@ -10,7 +10,8 @@ import os, re
 CRATES = """floats rounding fused fields geometry grid screen walk records check_record check_sheet check_sheet_c look_up finder
 open_sheet plan_rules limits scratch check_query tape events pushes units visit_items enter_cell open_reference try_member visits
 planner planner_c plan_query plan_text streams plan_answer plan""".split()
-SYSTEM = ['bytes', 'io', 'libc', 'os']  # what they call of the kit and the system: system.rs has stand-ins, as of `std::num`
+SYSTEM = ['io', 'stdio::HostRuntime']  # what they call of the kit and the system: system.rs has stand-ins, as of `std::io` and `std::num`
+STOOD_IN = {('streams', 'reason')}  # a module that has one there too
 
 # Where numbers outside of comparisons are changed too: exponents, shifts and masks, the places of the scratch, and what `plan` lends.
 NUMBERS = {'floats', 'rounding', 'fused', 'scratch', 'plan'}
@@ -66,10 +67,10 @@ class Place:
 
 
 def without_contracts(text):
-    """Ghost imports and `requires` and `ensures` clauses left out."""
-    text = re.sub(r'ghost use [^;]*;', '', text)
+    """Ghost imports, `requires` and `ensures` clauses and attributes left out."""
+    text = re.sub(r'ghost use [^;]*;|#!?\[[^]]*\]', '', text)
     out, at = [], 0
-    for clause in re.finditer(r'\b(requires|ensures)\s*\{', text):
+    for clause in re.finditer(r'\b(requires|ensures)(\s+\w+)?\s*\{', text):
         if clause.start() < at:
             continue
         out.append(text[at:clause.start()])
@@ -184,6 +185,8 @@ class File:
         left, right = text_between(tokens, start, at), text_between(tokens, at + 1, end)
         if left == right or (left, right) == ('s', 't'):
             return  # a test for NaN, or of two signs: no limit
+        if right.startswith('ErrorKind::'):
+            return  # a test of a kind: no number
         test = f'{left} {tokens[at]} {right}'
         number = self.place(test, changes_of(left, tokens[at], right))
         first = next(i for i in range(start, at) if not is_blank(tokens[i]))
@@ -221,6 +224,11 @@ class File:
         tokens = self.tokens
         end = operand(tokens, at, 1)
         arm = next(i for i in range(end + 1, len(tokens)) if not is_blank(tokens[i]))
+        if tokens[arm:arm + 2] == ['Ok', '('] and re.match(r'\d', tokens[arm + 2]):
+            value, count = text_between(tokens, at + 1, end), tokens[arm + 2]
+            number = self.place(f'match {value}: Ok({count})', [f'Ok({stepped(count, 1)})', f'Ok({stepped(count, -1)})'])
+            self.put[arm + 2] = 'n'
+            self.put[arm + 3] = f') if crate::switch::same({number}, n, {count})'
         if not re.match(r'\d', tokens[arm]):
             return
         value = text_between(tokens, at + 1, end)
@@ -248,9 +256,9 @@ class File:
         text = text.replace('crate::', f'crate::{self.crate}::').replace(f'crate::{self.crate}::switch', 'crate::switch')
         text = re.sub(r'\b(pub(\(crate\))? )?(struct|enum)\b', r'#[derive(Clone, Copy)] pub \3', text)
         text = re.sub(r'\[0(u\d+); (crate::switch::number\([^)]*\))\]', r'vec![0\1; \2]', text)
-        text = text.replace('fn main()', 'pub fn main()')
-        text = text.replace('std::num::', 'crate::num::')
-        return text.replace('#[no_mangle]', '').replace('extern "C" ', '')
+        text = text.replace('fn main(', 'pub fn main(')
+        text = text.replace('std::num::', 'crate::num::').replace('std::io::', 'crate::stdio::')
+        return text.replace('extern "C" ', '')
 
 
 def modules(crate, folder, name, places, calls):
@@ -258,8 +266,13 @@ def modules(crate, folder, name, places, calls):
     path = os.path.join(folder, name)
     with open(path) as file:
         text = File(crate, name, file.read(), places, calls).rust()
-    return re.sub(r'(pub )?mod (\w+);', lambda m: 'pub mod %s {%s\n%s}' % (
-        m.group(2), IMPORTS, modules(crate, folder, m.group(2) + '.rt', places, calls)), text)
+
+    def module(declared):
+        name = declared.group(2)
+        if (crate, name) in STOOD_IN:
+            return 'pub use crate::%s;' % name
+        return 'pub mod %s {%s\n%s}' % (name, IMPORTS, modules(crate, folder, name + '.rt', places, calls))
+    return re.sub(r'(pub )?mod (\w+);', module, text)
 
 
 IMPORTS = '#[allow(unused_imports)] use crate::{' + ', '.join(CRATES + SYSTEM) + '};'

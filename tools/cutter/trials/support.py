@@ -40,7 +40,7 @@ def printed(plan, description):
 
 def blocks_behind(page, sample):
     """The page's indented blocks behind the command that plans a sample, in order."""
-    behind = page.split("    tools/cut.py samples/%s | target/bin/plan" % sample, 1)[1].split("\n", 1)[1]
+    behind = page.split("    tools/cut.py samples/%s | crates/plan/out/plan" % sample, 1)[1].split("\n", 1)[1]
     groups = itertools.groupby(behind.splitlines(keepends=True), lambda line: line.startswith("    "))
     return ["".join(lines) for indented, lines in groups if indented]
 
