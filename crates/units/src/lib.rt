@@ -17,7 +17,7 @@ mod totals; // a product that stops at 2^64 - 1, and a member's share of one
 
 pub use totals::source_units;
 
-#[cycle(cell_draw_units_numbered_draw_units_reference_draw_units_source_draw_units)]
+#[cycle(draw_units)]
 pub fn reference_draw_units(
     sheet: &[u8],
     finder: &[u32],
@@ -42,7 +42,7 @@ pub fn reference_draw_units(
 }
 
 // The same of the reference that a number names.
-#[cycle(cell_draw_units_numbered_draw_units_reference_draw_units_source_draw_units)]
+#[cycle(draw_units)]
 fn numbered_draw_units(
     sheet: &[u8],
     finder: &[u32],
@@ -61,7 +61,7 @@ fn numbered_draw_units(
     reference_draw_units(sheet, finder, kinds, counts, marks, reference, depth)
 }
 
-#[cycle(cell_draw_units_numbered_draw_units_reference_draw_units_source_draw_units)]
+#[cycle(draw_units)]
 fn source_draw_units(
     sheet: &[u8],
     finder: &[u32],
@@ -86,7 +86,7 @@ fn source_draw_units(
     }
 }
 
-#[cycle(cell_draw_units_numbered_draw_units_reference_draw_units_source_draw_units)]
+#[cycle(draw_units)]
 fn cell_draw_units(
     sheet: &[u8],
     finder: &[u32],

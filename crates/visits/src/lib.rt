@@ -15,7 +15,7 @@ use records::PreparedSource;
 use visit_items::OpenCell;
 use walk::Found;
 
-#[cycle(visit_cell_visit_reference_visit_source)]
+#[cycle(visits)]
 pub fn visit_cell(
     sheet: &[u8],
     finder: &[u32],
@@ -70,7 +70,7 @@ pub fn visit_cell(
     next
 }
 
-#[cycle(visit_cell_visit_reference_visit_source)]
+#[cycle(visits)]
 fn visit_reference(
     sheet: &[u8],
     finder: &[u32],
@@ -165,7 +165,7 @@ fn visit_reference(
 }
 
 // `false` if a limit stopped the points of a node.
-#[cycle(visit_cell_visit_reference_visit_source)]
+#[cycle(visits)]
 fn visit_source(
     sheet: &[u8],
     finder: &[u32],
