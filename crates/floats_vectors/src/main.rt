@@ -10,97 +10,162 @@ mod single;
 mod text;
 
 use cases::{Operation, Tally};
-use streams::Input;
+use std::fs;
+use std::io::{Eprint, Write};
+use std::rt::Files;
+use streams::{Input, Printer};
 
 // Replays the file at the path, says what came of it under the name, and answers the tally with that of
 // the groups before. A file that cannot be read whole counts as one failed case.
-fn group(name: &[u8], path: &[u8], operation: Operation, before: Tally) -> Tally {
-    let mut buffer = io::large_buffer();
-    let fd = os::open_read(path);
-    if fd < 0 {
-        os::fail(path);
-        return cases::unread(before);
-    }
-    let input = streams::read_to_end(fd, &mut buffer);
-    libc::close(fd);
-    match input {
+fn group<F: Files, W: Write, E: Eprint>(
+    files: &F,
+    to: &mut Printer<W, E>,
+    name: &str,
+    path: &str,
+    operation: Operation,
+    before: Tally,
+) -> Tally {
+    let mut file = match fs::open(files, path) {
+        Ok(file) => file,
+        Err(error) => {
+            streams::fail(&to.errors, path, error);
+            return cases::unread(before);
+        }
+    };
+    let mut buffer = [0u8; 65536];
+    match streams::read_to_end(&mut file, &to.errors, &mut buffer) {
         Input::Whole(size) => {
             let tally = cases::replay(operation, &buffer[..size]);
-            cases::sum(before, tally, print(before.going, name, tally))
+            cases::sum(before, tally, print(to, before.going, name, tally))
         }
         _ => cases::unread(before),
     }
 }
 
-fn print(going: bool, name: &[u8], tally: Tally) -> bool {
-    let going = streams::print(going, name);
-    let going = streams::print(going, b": ");
-    let going = streams::print_number(going, tally.passed);
-    let going = streams::print(going, b" passed, ");
-    let going = streams::print_number(going, tally.failed);
-    streams::print(going, b" failed\n")
+fn print<W: Write, E: Eprint>(
+    to: &mut Printer<W, E>,
+    going: bool,
+    name: &str,
+    tally: Tally,
+) -> bool {
+    let going = streams::print(to, going, name.as_bytes());
+    let going = streams::print(to, going, b": ");
+    let going = streams::print_number(to, going, tally.passed);
+    let going = streams::print(to, going, b" passed, ");
+    let going = streams::print_number(to, going, tally.failed);
+    streams::print(to, going, b" failed\n")
 }
 
-fn main() {
+fn main(rt: HostRuntime) {
+    let mut to = Printer {
+        out: rt.stdout(),
+        errors: rt.stderr(),
+    };
     let t = cases::none();
     let t = group(
-        b"fused, published",
-        b"published-fused.txt",
+        &rt,
+        &mut to,
+        "fused, published",
+        "published-fused.txt",
         Operation::Fused,
         t,
     );
     let t = group(
-        b"fused, document 01",
-        b"document-fused.txt",
+        &rt,
+        &mut to,
+        "fused, document 01",
+        "document-fused.txt",
         Operation::Fused,
         t,
     );
     let t = group(
-        b"fused, hardware",
-        b"hardware-fused.txt",
+        &rt,
+        &mut to,
+        "fused, hardware",
+        "hardware-fused.txt",
         Operation::Fused,
         t,
     );
     let t = group(
-        b"f64 to f32, published",
-        b"published-narrow.txt",
+        &rt,
+        &mut to,
+        "f64 to f32, published",
+        "published-narrow.txt",
         Operation::Narrow,
         t,
     );
     let t = group(
-        b"f64 to f32, hardware",
-        b"hardware-narrow.txt",
+        &rt,
+        &mut to,
+        "f64 to f32, hardware",
+        "hardware-narrow.txt",
         Operation::Narrow,
         t,
     );
     let t = group(
-        b"u64 to f32, document 01",
-        b"document-count.txt",
+        &rt,
+        &mut to,
+        "u64 to f32, document 01",
+        "document-count.txt",
         Operation::Count,
         t,
     );
     let t = group(
-        b"u64 to f32, hardware",
-        b"hardware-count.txt",
+        &rt,
+        &mut to,
+        "u64 to f32, hardware",
+        "hardware-count.txt",
         Operation::Count,
         t,
     );
-    let t = group(b"f64 min", b"least.txt", Operation::Least, t);
-    let t = group(b"f64 max", b"greatest.txt", Operation::Greatest, t);
+    let t = group(&rt, &mut to, "f64 min", "least.txt", Operation::Least, t);
     let t = group(
-        b"f32 max",
-        b"greatest-f32.txt",
+        &rt,
+        &mut to,
+        "f64 max",
+        "greatest.txt",
+        Operation::Greatest,
+        t,
+    );
+    let t = group(
+        &rt,
+        &mut to,
+        "f32 max",
+        "greatest-f32.txt",
         Operation::GreatestSingle,
         t,
     );
-    let t = group(b"f64 abs", b"absolute.txt", Operation::Absolute, t);
-    let t = group(b"f64 is finite", b"finite.txt", Operation::Finite, t);
     let t = group(
-        b"f32 is finite",
-        b"finite-f32.txt",
+        &rt,
+        &mut to,
+        "f64 abs",
+        "absolute.txt",
+        Operation::Absolute,
+        t,
+    );
+    let t = group(
+        &rt,
+        &mut to,
+        "f64 is finite",
+        "finite.txt",
+        Operation::Finite,
+        t,
+    );
+    let t = group(
+        &rt,
+        &mut to,
+        "f32 is finite",
+        "finite-f32.txt",
         Operation::FiniteSingle,
         t,
     );
-    let t = group(b"f64 pattern", b"pattern.txt", Operation::Pattern, t);
-    print(t.going, b"all", t);
+    let t = group(
+        &rt,
+        &mut to,
+        "f64 pattern",
+        "pattern.txt",
+        Operation::Pattern,
+        t,
+    );
+    print(&mut to, t.going, "all", t);
 }

@@ -14,12 +14,16 @@
 
 #![tactic(auto)]
 
-ghost use Rattle.std.specs.Prelude.{◌≤◌, length};
+ghost use Rattle.std.specs.Prelude.{◌≤◌, ◌<◌, ◌^◌, length};
+ghost use Rattle.totals.specs.TapeLength.{most_tape};
 ghost use Rattle.plan_text.specs.Written.{line_room};
 
-use libc::STDIN_FILENO;
+use std::io::{Eprint, Read, Write};
+use streams::Printer;
 
-fn run(
+fn run<R: Read, W: Write, E: Eprint>(
+    from: &mut R,
+    to: &mut Printer<W, E>,
     buffer: &mut [u8],
     finder: &mut [u32],
     hidden: &mut [u32],
@@ -30,19 +34,37 @@ fn run(
 )
     requires { line_room ≤ length text.old }
 {
-    let input = streams::read_to_end(STDIN_FILENO, buffer);
+    let input = streams::read_to_end(from, &to.errors, buffer);
     let printed = plan_answer::answer_input(buffer, input, finder, hidden, tape, counts, marks);
-    plan_answer::print_answer(true, text, printed, tape);
+    plan_answer::print_answer(to, true, text, printed, tape);
 }
 
-// The finder has a place for each 26 bytes of input, which no sheet exceeds. Counts and marks are enough for 4,096 cells at depth 48.
-fn lend(buffer: &mut [u8], tape: &mut [u8]) {
-    let mut finder = [0u32; 28356];
-    let mut hidden = [0u32; 16384];
-    let mut counts = [0u64; 196608];
-    let mut marks = [0u8; 204800];
-    let mut text = [0u8; 8192];
+// Lends what a plan needs besides its input and its tape: lists, zeros and a buffer of text, of so many places.
+fn lend<
+    R: Read,
+    W: Write,
+    E: Eprint,
+    const FINDER: usize,
+    const HIDDEN: usize,
+    const COUNTS: usize,
+    const MARKS: usize,
+    const TEXT: usize,
+>(from: &mut R, to: &mut Printer<W, E>, buffer: &mut [u8], tape: &mut [u8])
+    requires finder { FINDER < 2 ^ 60 }
+    requires hidden { HIDDEN < 2 ^ 60 }
+    requires counts { COUNTS < 2 ^ 60 }
+    requires marks { MARKS < 2 ^ 60 }
+    requires text { TEXT < 2 ^ 60 }
+    requires line_room { line_room ≤ TEXT }
+{
+    let mut finder = [0u32; FINDER];
+    let mut hidden = [0u32; HIDDEN];
+    let mut counts = [0u64; COUNTS];
+    let mut marks = [0u8; MARKS];
+    let mut text = [0u8; TEXT];
     run(
+        from,
+        to,
         buffer,
         &mut finder,
         &mut hidden,
@@ -53,14 +75,36 @@ fn lend(buffer: &mut [u8], tape: &mut [u8]) {
     );
 }
 
-// The tape is enough for every plan.
-fn lend_tape(buffer: &mut [u8]) {
-    let mut tape = [0u8; 5360062];
-    lend(buffer, &mut tape);
+// Lends a tape of so many bytes, which no tape exceeds. The finder has a place for each 26 bytes of input, which no sheet exceeds. Counts and marks are enough
+// for 4,096 cells at depth 48.
+fn lend_tape<R: Read, W: Write, E: Eprint, const TAPE: usize>(
+    from: &mut R,
+    to: &mut Printer<W, E>,
+    buffer: &mut [u8],
+)
+    requires tape { TAPE < 2 ^ 60 }
+    requires enough { most_tape ≤ TAPE }
+{
+    let mut tape = [0u8; TAPE];
+    lend::<_, _, _, 28356, 16384, 196608, 204800, 8192>(from, to, buffer, &mut tape);
 }
 
-// An input of 737,280 bytes fits: one that fills the buffer is too long. All buffers together leave 318 KiB of a stack of 8 MiB.
-fn main() {
-    let mut buffer = [0u8; 737281];
-    lend_tape(&mut buffer);
+// Lends a buffer of so many bytes: one that an input fills is too long for it.
+fn lend_buffer<R: Read, W: Write, E: Eprint, const BUFFER: usize>(
+    from: &mut R,
+    to: &mut Printer<W, E>,
+)
+    requires { BUFFER < 2 ^ 60 }
+{
+    let mut buffer = [0u8; BUFFER];
+    lend_tape::<_, _, _, 5360062>(from, to, &mut buffer);
+}
+
+// An input of 737,280 bytes fits. All buffers together leave 318 KiB of a stack of 8 MiB.
+fn main(rt: HostRuntime) {
+    let mut to = Printer {
+        out: rt.stdout(),
+        errors: rt.stderr(),
+    };
+    lend_buffer::<_, _, _, 737281>(&mut rt.stdin(), &mut to);
 }

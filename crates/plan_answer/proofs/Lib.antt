@@ -3,6 +3,7 @@
 --     OwnFinder        a plan in the list in which the sheet was opened
 --     Replies          the reply to an input, by code path
 --     Parts            a part of a text
+--     Texts            the text, part behind part
 --     Buffers          buffers of zeros, for programs
 --     Lines            a line of each kind of record, computed
 --     WorkedExample    document 01's worked example, from its bytes to its text
@@ -11,6 +12,7 @@ pub mod Outcomes
 pub mod OwnFinder
 pub mod Replies
 pub mod Parts
+pub mod Texts
 pub mod Buffers
 pub mod Lines
 pub mod WorkedExample

@@ -8,15 +8,15 @@
 
 #![tactic(auto)]
 
-ghost use Rattle.std.specs.Prelude.{◌≡◌, ◌+◌, ◌<◌, ◌≤◌, min, true, length};
+ghost use Rattle.std.specs.Prelude.{◌≡◌, ◌+◌, ◌<◌, ◌≤◌, ◌^◌, min, true, length};
 ghost use Rattle.streams.specs.Moving.{Within as ReadWithin};
 ghost use Rattle.plan_text.specs.Written.{line_room};
 ghost use Rattle.plan_answer.specs.Text.{tape_end};
 ghost use Rattle.plan_vectors.specs.Case.{Within};
 
-use libc::STDIN_FILENO;
 use plan_answer::Printed;
-use streams::Input;
+use std::io::{Eprint, Read, Write};
+use streams::{Input, Printer};
 
 // Where the input and the text of a case begin, and where it ends.
 #[derive(Clone, Copy)]
@@ -128,7 +128,8 @@ fn is_expected(expected: &[u8], text: &mut [u8], printed: Printed, tape: &[u8]) 
 // ---- answers that no stored case has
 
 // Prints the answer to an input as `plan` does, behind a word on the input.
-fn print_input(
+fn print_input<W: Write, E: Eprint>(
+    to: &mut Printer<W, E>,
     going: bool,
     word: &[u8],
     input: &[u8],
@@ -141,13 +142,14 @@ fn print_input(
 ) -> bool
     requires { line_room ≤ length text.old }
 {
-    let going = streams::print(going, word);
+    let going = streams::print(to, going, word);
     let printed = plan_answer::answer(input, finder, hidden, tape, counts, marks);
-    plan_answer::print_answer(going, text, printed, tape)
+    plan_answer::print_answer(to, going, text, printed, tape)
 }
 
 // The same of an input that was not read to its end.
-fn print_unread(
+fn print_unread<W: Write, E: Eprint>(
+    to: &mut Printer<W, E>,
     going: bool,
     word: &[u8],
     buffer: &[u8],
@@ -162,9 +164,9 @@ fn print_unread(
     requires read_within { ReadWithin input buffer.now }
     requires line_room_in_bounds { line_room ≤ length text.old }
 {
-    let going = streams::print(going, word);
+    let going = streams::print(to, going, word);
     let printed = plan_answer::answer_input(buffer, input, finder, hidden, tape, counts, marks);
-    plan_answer::print_answer(going, text, printed, tape)
+    plan_answer::print_answer(to, going, text, printed, tape)
 }
 
 // Puts a query and 4,097 empty cells, one more than a sheet may have, into a buffer of zeros. Gives their end.
@@ -180,7 +182,8 @@ fn put_many_cells(room: &mut [u8]) -> usize {
     at
 }
 
-fn print_many_cells(
+fn print_many_cells<W: Write, E: Eprint>(
+    to: &mut Printer<W, E>,
     room: &mut [u8],
     finder: &mut [u32],
     hidden: &mut [u32],
@@ -196,6 +199,7 @@ fn print_many_cells(
         return true;
     }
     print_input(
+        to,
         true,
         b"4,097 cells: ",
         &room[..end],
@@ -209,7 +213,8 @@ fn print_many_cells(
 }
 
 // The same cells behind a query with a hidden layer, without room for it.
-fn print_hidden_layer(
+fn print_hidden_layer<W: Write, E: Eprint>(
+    to: &mut Printer<W, E>,
     going: bool,
     room: &mut [u8],
     finder: &mut [u32],
@@ -223,6 +228,7 @@ fn print_hidden_layer(
 {
     fields::put_u32(room, 0, 58);
     print_input(
+        to,
         going,
         b"no room for hidden layers: ",
         room,
@@ -236,7 +242,8 @@ fn print_hidden_layer(
 }
 
 // Inputs that are refused, or too long, for their size.
-fn print_long(
+fn print_long<W: Write, E: Eprint>(
+    to: &mut Printer<W, E>,
     room: &mut [u8],
     finder: &mut [u32],
     hidden: &mut [u32],
@@ -247,12 +254,13 @@ fn print_long(
 ) -> bool
     requires { line_room ≤ length text.old }
 {
-    let going = print_many_cells(room, finder, hidden, tape, counts, marks, text);
-    print_hidden_layer(going, room, finder, hidden, tape, counts, marks, text)
+    let going = print_many_cells(to, room, finder, hidden, tape, counts, marks, text);
+    print_hidden_layer(to, going, room, finder, hidden, tape, counts, marks, text)
 }
 
 // Inputs that were not read to their end, which the bytes in the buffer do not matter for.
-fn print_unreads(
+fn print_unreads<W: Write, E: Eprint>(
+    to: &mut Printer<W, E>,
     going: bool,
     buffer: &[u8],
     finder: &mut [u32],
@@ -265,6 +273,7 @@ fn print_unreads(
     requires { line_room ≤ length text.old }
 {
     let going = print_unread(
+        to,
         going,
         b"no room for the input: ",
         buffer,
@@ -277,6 +286,7 @@ fn print_unreads(
         text,
     );
     print_unread(
+        to,
         going,
         b"a read that failed: ",
         buffer,
@@ -292,65 +302,84 @@ fn print_unreads(
 
 // ---- the replay
 
-fn say(t: Tally) -> bool {
-    let going = streams::print_number(t.going, t.passed);
-    let going = streams::print(going, b" passed, ");
-    let going = streams::print_number(going, t.failed);
-    streams::print(going, b" failed\n")
+fn say<W: Write, E: Eprint>(to: &mut Printer<W, E>, t: Tally) -> bool {
+    let going = streams::print_number(to, t.going, t.passed);
+    let going = streams::print(to, going, b" passed, ");
+    let going = streams::print_number(to, going, t.failed);
+    streams::print(to, going, b" failed\n")
 }
 
-fn say_word(going: bool, word: u64) -> bool {
+fn say_word<W: Write, E: Eprint>(to: &mut Printer<W, E>, going: bool, word: u64) -> bool {
     match word {
-        0 => streams::print(going, b"batch: "),
-        1 => streams::print(going, b"text: "),
-        2 => streams::print(going, b"point: "),
-        3 => streams::print(going, b"proxy: "),
-        4 => streams::print(going, b"totals: "),
-        5 => streams::print(going, b"refused: "),
-        6 => streams::print(going, b"no query: "),
-        _ => streams::print(going, b"other: "),
+        0 => streams::print(to, going, b"batch: "),
+        1 => streams::print(to, going, b"text: "),
+        2 => streams::print(to, going, b"point: "),
+        3 => streams::print(to, going, b"proxy: "),
+        4 => streams::print(to, going, b"totals: "),
+        5 => streams::print(to, going, b"refused: "),
+        6 => streams::print(to, going, b"no query: "),
+        _ => streams::print(to, going, b"other: "),
     }
 }
 
 // Says what came of the cases of a word, and adds them up.
-fn say_group(word: u64, t: Tally, sum: Tally) -> Tally {
-    let going = say_word(t.going, word);
+fn say_group<W: Write, E: Eprint>(
+    to: &mut Printer<W, E>,
+    word: u64,
+    t: Tally,
+    sum: Tally,
+) -> Tally {
+    let going = say_word(to, t.going, word);
     let passed = t.passed;
     let failed = t.failed;
     Tally {
-        passed: std::num::wrapping_add_u64(sum.passed, passed),
-        failed: std::num::wrapping_add_u64(sum.failed, failed),
-        going: say(Tally {
-            passed,
-            failed,
-            going,
-        }),
+        passed: sum.passed.wrapping_add(passed),
+        failed: sum.failed.wrapping_add(failed),
+        going: say(
+            to,
+            Tally {
+                passed,
+                failed,
+                going,
+            },
+        ),
     }
 }
 
-fn say_wrong(going: bool, number: u64) -> bool {
-    let going = streams::print(going, b"wrong: ");
-    let going = streams::print_number(going, number);
-    streams::print(going, b"\n")
+fn say_wrong<W: Write, E: Eprint>(to: &mut Printer<W, E>, going: bool, number: u64) -> bool {
+    let going = streams::print(to, going, b"wrong: ");
+    let going = streams::print_number(to, going, number);
+    streams::print(to, going, b"\n")
 }
 
-fn counted(t: Tally, number: u64, passed: bool) -> Tally {
+fn counted<W: Write, E: Eprint>(
+    to: &mut Printer<W, E>,
+    t: Tally,
+    number: u64,
+    passed: bool,
+) -> Tally {
     if passed {
         return Tally {
-            passed: std::num::wrapping_add_u64(t.passed, 1),
+            passed: t.passed.wrapping_add(1),
             failed: t.failed,
             going: t.going,
         };
     }
     Tally {
         passed: t.passed,
-        failed: std::num::wrapping_add_u64(t.failed, 1),
-        going: say_wrong(t.going, number),
+        failed: t.failed.wrapping_add(1),
+        going: say_wrong(to, t.going, number),
     }
 }
 
 // Prints the answer where none was counted before.
-fn print_if_first(t: Tally, text: &mut [u8], printed: Printed, tape: &[u8]) -> bool
+fn print_if_first<W: Write, E: Eprint>(
+    to: &mut Printer<W, E>,
+    t: Tally,
+    text: &mut [u8],
+    printed: Printed,
+    tape: &[u8],
+) -> bool
     requires printed_in_bounds { tape_end printed ≤ length tape.now }
     requires line_room_in_bounds { line_room ≤ length text.old }
 {
@@ -360,11 +389,12 @@ fn print_if_first(t: Tally, text: &mut [u8], printed: Printed, tape: &[u8]) -> b
     if t.failed != 0 {
         return t.going;
     }
-    plan_answer::print_answer(t.going, text, printed, tape)
+    plan_answer::print_answer(to, t.going, text, printed, tape)
 }
 
 // Runs a case where its text begins with the word, and prints the answer to the first of them.
-fn compare_one(
+fn compare_one<W: Write, E: Eprint>(
+    to: &mut Printer<W, E>,
     input: &[u8],
     expected: &[u8],
     word: u64,
@@ -384,8 +414,9 @@ fn compare_one(
     }
     let printed = plan_answer::answer(input, finder, hidden, tape, counts, marks);
     let passed = is_expected(expected, text, printed, tape);
-    let going = print_if_first(t, text, printed, tape);
+    let going = print_if_first(to, t, text, printed, tape);
     counted(
+        to,
         Tally {
             passed: t.passed,
             failed: t.failed,
@@ -397,7 +428,8 @@ fn compare_one(
 }
 
 // Runs the cases whose texts begin with the word.
-fn compare(
+fn compare<W: Write, E: Eprint>(
+    to: &mut Printer<W, E>,
     cases: &[u8],
     word: u64,
     going: bool,
@@ -423,6 +455,7 @@ fn compare(
         let expected = c.expected;
         let end = c.end;
         t = compare_one(
+            to,
             &cases[input..expected],
             &cases[expected..end],
             word,
@@ -435,14 +468,15 @@ fn compare(
             marks,
             text,
         );
-        number = std::num::wrapping_add_u64(number, 1);
+        number = number.wrapping_add(1);
         at = end;
     }
     t
 }
 
 // Runs every case, and prints the sums.
-fn compare_all(
+fn compare_all<W: Write, E: Eprint>(
+    to: &mut Printer<W, E>,
     going: bool,
     cases: &[u8],
     finder: &mut [u32],
@@ -462,16 +496,17 @@ fn compare_all(
     let mut word = 0u64;
     while word < WORDS {
         let t = compare(
-            cases, word, sum.going, finder, hidden, tape, counts, marks, text,
+            to, cases, word, sum.going, finder, hidden, tape, counts, marks, text,
         );
-        sum = say_group(word, t, sum);
+        sum = say_group(to, word, t, sum);
         word += 1;
     }
-    say(sum);
+    say(to, sum);
 }
 
 // Inputs that were not read to their end; and the first case, a plan, answered where no tape is lent.
-fn print_first(
+fn print_first<W: Write, E: Eprint>(
+    to: &mut Printer<W, E>,
     going: bool,
     cases: &[u8],
     finder: &mut [u32],
@@ -483,7 +518,7 @@ fn print_first(
 ) -> bool
     requires { line_room ≤ length text.old }
 {
-    let going = print_unreads(going, cases, finder, hidden, tape, counts, marks, text);
+    let going = print_unreads(to, going, cases, finder, hidden, tape, counts, marks, text);
     if cases.len() == 0 {
         return going;
     }
@@ -491,6 +526,7 @@ fn print_first(
     let input = c.input;
     let expected = c.expected;
     print_input(
+        to,
         going,
         b"no room for the tape: ",
         &cases[input..expected],
@@ -504,7 +540,8 @@ fn print_first(
 }
 
 // What the cases are for, once they are read.
-fn replay(
+fn replay<W: Write, E: Eprint>(
+    to: &mut Printer<W, E>,
     going: bool,
     cases: &[u8],
     finder: &mut [u32],
@@ -516,12 +553,13 @@ fn replay(
 )
     requires { line_room ≤ length text.old }
 {
-    let going = print_first(going, cases, finder, hidden, tape, counts, marks, text);
-    compare_all(going, cases, finder, hidden, tape, counts, marks, text);
+    let going = print_first(to, going, cases, finder, hidden, tape, counts, marks, text);
+    compare_all(to, going, cases, finder, hidden, tape, counts, marks, text);
 }
 
 // The room behind so many bytes of cases serves for long inputs, then the cases are replayed.
-fn run_cases(
+fn run_cases<W: Write, E: Eprint>(
+    to: &mut Printer<W, E>,
     buffer: &mut [u8],
     size: usize,
     finder: &mut [u32],
@@ -535,6 +573,7 @@ fn run_cases(
     requires line_room_in_bounds { line_room ≤ length text.old }
 {
     let going = print_long(
+        to,
         &mut buffer[size..],
         finder,
         hidden,
@@ -544,6 +583,7 @@ fn run_cases(
         text,
     );
     replay(
+        to,
         going,
         &buffer[..size],
         finder,
@@ -556,7 +596,9 @@ fn run_cases(
 }
 
 // Reads the cases, which must leave room in their buffer.
-fn run(
+fn run<R: Read, W: Write, E: Eprint>(
+    from: &mut R,
+    to: &mut Printer<W, E>,
     cases: &mut [u8],
     finder: &mut [u32],
     hidden: &mut [u32],
@@ -567,25 +609,46 @@ fn run(
 )
     requires { line_room ≤ length text.old }
 {
-    match streams::read_to_end(STDIN_FILENO, cases) {
-        Input::Whole(size) => run_cases(cases, size, finder, hidden, tape, counts, marks, text),
+    match streams::read_to_end(from, &to.errors, cases) {
+        Input::Whole(size) => run_cases(to, cases, size, finder, hidden, tape, counts, marks, text),
         Input::TooLong => {
-            streams::print(true, b"too long\n");
+            streams::print(to, true, b"too long\n");
         }
         Input::Unreadable => {
-            streams::print(true, b"unreadable\n");
+            streams::print(to, true, b"unreadable\n");
         }
     }
 }
 
-fn lend(cases: &mut [u8]) {
-    let mut finder = [0u32; 8];
-    let mut hidden = [0u32; 1024];
-    let mut tape = [0u8; 262144];
-    let mut counts = [0u64; 196608];
-    let mut marks = [0u8; 204800];
-    let mut text = [0u8; 4096];
+// Lends what the plans need besides the cases: lists, a tape, zeros and a buffer of text, of so many places.
+fn lend<
+    R: Read,
+    W: Write,
+    E: Eprint,
+    const FINDER: usize,
+    const HIDDEN: usize,
+    const TAPE: usize,
+    const COUNTS: usize,
+    const MARKS: usize,
+    const TEXT: usize,
+>(from: &mut R, to: &mut Printer<W, E>, cases: &mut [u8])
+    requires finder { FINDER < 2 ^ 60 }
+    requires hidden { HIDDEN < 2 ^ 60 }
+    requires tape { TAPE < 2 ^ 60 }
+    requires counts { COUNTS < 2 ^ 60 }
+    requires marks { MARKS < 2 ^ 60 }
+    requires text { TEXT < 2 ^ 60 }
+    requires line_room { line_room ≤ TEXT }
+{
+    let mut finder = [0u32; FINDER];
+    let mut hidden = [0u32; HIDDEN];
+    let mut tape = [0u8; TAPE];
+    let mut counts = [0u64; COUNTS];
+    let mut marks = [0u8; MARKS];
+    let mut text = [0u8; TEXT];
     run(
+        from,
+        to,
         cases,
         &mut finder,
         &mut hidden,
@@ -596,7 +659,21 @@ fn lend(cases: &mut [u8]) {
     );
 }
 
-fn main() {
-    let mut cases = [0u8; 2097152];
-    lend(&mut cases);
+// Lends room for so many bytes of cases.
+fn lend_cases<R: Read, W: Write, E: Eprint, const CASES: usize>(
+    from: &mut R,
+    to: &mut Printer<W, E>,
+)
+    requires { CASES < 2 ^ 60 }
+{
+    let mut cases = [0u8; CASES];
+    lend::<_, _, _, 8, 1024, 262144, 196608, 204800, 4096>(from, to, &mut cases);
+}
+
+fn main(rt: HostRuntime) {
+    let mut to = Printer {
+        out: rt.stdout(),
+        errors: rt.stderr(),
+    };
+    lend_cases::<_, _, _, 2097152>(&mut rt.stdin(), &mut to);
 }

@@ -6,11 +6,11 @@
 
 #![tactic(auto)]
 
-ghost use Rattle.std.specs.Prelude.{◌<◌, length};
+ghost use Rattle.std.specs.Prelude.{◌<◌, ◌^◌, length};
 
 use check_sheet::Checked;
-use libc::STDIN_FILENO;
-use streams::Input;
+use std::io::{Eprint, Read, Write};
+use streams::{Input, Printer};
 use walk::Found;
 
 const LABEL: usize = 36;
@@ -137,16 +137,21 @@ fn passes(cases: &[u8], at: usize, c: Case, sheet: &mut [u8], group: u32) -> boo
     answers(sheet, end, c, group)
 }
 
-fn say_wrong(going: bool, cases: &[u8], at: usize) -> bool
+fn say_wrong<W: Write, E: Eprint>(
+    to: &mut Printer<W, E>,
+    going: bool,
+    cases: &[u8],
+    at: usize,
+) -> bool
     requires { at < length cases.now }
 {
     let from = at + LABEL;
-    let to = at + HEAD;
-    let mut going = streams::print(going, b"wrong: ");
-    if to <= cases.len() {
-        going = streams::print(going, &cases[from..to]);
+    let end = at + HEAD;
+    let mut going = streams::print(to, going, b"wrong: ");
+    if end <= cases.len() {
+        going = streams::print(to, going, &cases[from..end]);
     }
-    streams::print(going, b"\n")
+    streams::print(to, going, b"\n")
 }
 
 // Whether a case is in a group.
@@ -159,7 +164,15 @@ fn is_in(c: Case, group: u32) -> bool {
 }
 
 // Runs the case at an offset where it is in the group.
-fn compare_one(cases: &[u8], at: usize, c: Case, sheet: &mut [u8], group: u32, t: Tally) -> Tally
+fn compare_one<W: Write, E: Eprint>(
+    to: &mut Printer<W, E>,
+    cases: &[u8],
+    at: usize,
+    c: Case,
+    sheet: &mut [u8],
+    group: u32,
+    t: Tally,
+) -> Tally
     requires { at < length cases.now }
 {
     if !is_in(c, group) {
@@ -167,15 +180,15 @@ fn compare_one(cases: &[u8], at: usize, c: Case, sheet: &mut [u8], group: u32, t
     }
     if passes(cases, at, c, sheet, group) {
         Tally {
-            passed: std::num::wrapping_add_u64(t.passed, 1),
+            passed: t.passed.wrapping_add(1),
             failed: t.failed,
             going: t.going,
         }
     } else {
         Tally {
             passed: t.passed,
-            failed: std::num::wrapping_add_u64(t.failed, 1),
-            going: say_wrong(t.going, cases, at),
+            failed: t.failed.wrapping_add(1),
+            going: say_wrong(to, t.going, cases, at),
         }
     }
 }
@@ -189,7 +202,13 @@ fn behind(cases: &[u8], at: usize, c: Case) -> usize
 }
 
 // Runs the cases of a group.
-fn compare(cases: &[u8], sheet: &mut [u8], group: u32, going: bool) -> Tally {
+fn compare<W: Write, E: Eprint>(
+    to: &mut Printer<W, E>,
+    cases: &[u8],
+    sheet: &mut [u8],
+    group: u32,
+    going: bool,
+) -> Tally {
     let mut at = 0;
     let mut t = Tally {
         passed: 0,
@@ -198,49 +217,57 @@ fn compare(cases: &[u8], sheet: &mut [u8], group: u32, going: bool) -> Tally {
     };
     while at < cases.len() {
         let c = case_at(cases, at);
-        t = compare_one(cases, at, c, sheet, group, t);
+        t = compare_one(to, cases, at, c, sheet, group, t);
         at = behind(cases, at, c);
     }
     t
 }
 
-fn say(t: Tally) -> bool {
-    let going = streams::print_number(t.going, t.passed);
-    let going = streams::print(going, b" passed, ");
-    let going = streams::print_number(going, t.failed);
-    streams::print(going, b" failed\n")
+fn say<W: Write, E: Eprint>(to: &mut Printer<W, E>, t: Tally) -> bool {
+    let going = streams::print_number(to, t.going, t.passed);
+    let going = streams::print(to, going, b" passed, ");
+    let going = streams::print_number(to, going, t.failed);
+    streams::print(to, going, b" failed\n")
 }
 
-fn say_name(going: bool, group: u32) -> bool {
+fn say_name<W: Write, E: Eprint>(to: &mut Printer<W, E>, going: bool, group: u32) -> bool {
     if group == 0 {
-        return streams::print(going, b"sound: ");
+        return streams::print(to, going, b"sound: ");
     }
     if group == LOOK_UPS {
-        return streams::print(going, b"look-ups: ");
+        return streams::print(to, going, b"look-ups: ");
     }
-    let going = streams::print(going, b"refusal ");
-    let going = streams::print_number(going, group as u64);
-    streams::print(going, b": ")
+    let going = streams::print(to, going, b"refusal ");
+    let going = streams::print_number(to, going, group as u64);
+    streams::print(to, going, b": ")
 }
 
 // Says what came of the cases of a group, and adds them up.
-fn say_group(group: u32, t: Tally, sum: Tally) -> Tally {
-    let going = say_name(t.going, group);
+fn say_group<W: Write, E: Eprint>(
+    to: &mut Printer<W, E>,
+    group: u32,
+    t: Tally,
+    sum: Tally,
+) -> Tally {
+    let going = say_name(to, t.going, group);
     let passed = t.passed;
     let failed = t.failed;
     Tally {
-        passed: std::num::wrapping_add_u64(sum.passed, passed),
-        failed: std::num::wrapping_add_u64(sum.failed, failed),
-        going: say(Tally {
-            passed,
-            failed,
-            going,
-        }),
+        passed: sum.passed.wrapping_add(passed),
+        failed: sum.failed.wrapping_add(failed),
+        going: say(
+            to,
+            Tally {
+                passed,
+                failed,
+                going,
+            },
+        ),
     }
 }
 
 // Runs every case, and prints the sums.
-fn compare_all(cases: &[u8], sheet: &mut [u8]) {
+fn compare_all<W: Write, E: Eprint>(to: &mut Printer<W, E>, cases: &[u8], sheet: &mut [u8]) {
     let mut sum = Tally {
         passed: 0,
         failed: 0,
@@ -248,27 +275,47 @@ fn compare_all(cases: &[u8], sheet: &mut [u8]) {
     };
     let mut group = 0u32;
     while group <= LOOK_UPS {
-        let t = compare(cases, sheet, group, sum.going);
-        sum = say_group(group, t, sum);
+        let t = compare(to, cases, sheet, group, sum.going);
+        sum = say_group(to, group, t, sum);
         group += 1;
     }
-    say(sum);
+    say(to, sum);
 }
 
-fn run(cases: &mut [u8], sheet: &mut [u8]) {
-    match streams::read_to_end(STDIN_FILENO, cases) {
-        Input::Whole(size) => compare_all(&cases[..size], sheet),
+fn run<R: Read, W: Write, E: Eprint>(
+    from: &mut R,
+    to: &mut Printer<W, E>,
+    cases: &mut [u8],
+    sheet: &mut [u8],
+) {
+    match streams::read_to_end(from, &to.errors, cases) {
+        Input::Whole(size) => compare_all(to, &cases[..size], sheet),
         Input::TooLong => {
-            streams::print(true, b"too long\n");
+            streams::print(to, true, b"too long\n");
         }
         Input::Unreadable => {
-            streams::print(true, b"unreadable\n");
+            streams::print(to, true, b"unreadable\n");
         }
     }
 }
 
-fn main() {
-    let mut cases = [0u8; 131072];
-    let mut sheet = [0u8; 262144];
-    run(&mut cases, &mut sheet);
+// Lends buffers of so many bytes.
+fn lend<R: Read, W: Write, E: Eprint, const CASES: usize, const SHEET: usize>(
+    from: &mut R,
+    to: &mut Printer<W, E>,
+)
+    requires cases { CASES < 2 ^ 63 }
+    requires sheet { SHEET < 2 ^ 63 }
+{
+    let mut cases = [0u8; CASES];
+    let mut sheet = [0u8; SHEET];
+    run(from, to, &mut cases, &mut sheet);
+}
+
+fn main(rt: HostRuntime) {
+    let mut to = Printer {
+        out: rt.stdout(),
+        errors: rt.stderr(),
+    };
+    lend::<_, _, _, 131072, 262144>(&mut rt.stdin(), &mut to);
 }

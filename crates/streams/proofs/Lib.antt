@@ -1,3 +1,3 @@
 -- Proofs of `streams`.
---     Meanings    what an answer of the system's means, by code path
+--     Meanings    what an answer means, read backwards; what a loop has moved; and where an input that was read lies
 pub mod Meanings

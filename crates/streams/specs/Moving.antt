@@ -1,21 +1,29 @@
--- What an answer of the system's to a `read` or a `write` means, and what a call that stands on it promises.
+-- What an answer to a `read` or a `write` means, and what a call that stands on it promises.
 -- Definitions only. Assumes nothing.
-use Rattle.std.specs.Prelude.{cond, List, ℕ, ◌+◌, ◌≤◌, ◌<◌, ℤ, eqb, length}
-use Rattle.std.proofs.Common.{of_z}
-use Rattle.std.specs.Int.{w32, w64}
-use Rattle.io.specs.Counts.{clamp_len}
+use Rattle.std.specs.Prelude.{◌≡◌, List, ℕ, ◌+◌, ◌≤◌, ◌<◌, length, take, Result, Ok, Err, IfSome, if◌then◌else◌, ◌==◌}
+use Rattle.std.specs.declared.option.Option.{Option}
+use Rattle.std.specs.IoError.{error_kind}
+use Rattle.std.specs.declared.io.Error.{Error}
+use Rattle.std.specs.declared.io.ErrorKind.{ErrorKind}
+use Rattle.std.specs.declared.io.ErrorKind.TheVariants as kind
 use Rattle.streams.specs.declared.moved.Moved.{Moved}
 use Rattle.streams.specs.declared.moved.Moved.TheVariants.{Bytes, Nothing, Interrupted, Failed}
 use Rattle.streams.specs.declared.input.Input.{Input}
 use Rattle.streams.specs.declared.input.Input.TheVariants.{Whole, TooLong, Unreadable}
 
--- An answer below 0: interrupted (EINTR is 4), or failed. Signed numbers are compared by the bits that stand for them.
-unfoldable pub unmoved_of : ℤ → Moved
-unmoved_of error = cond (eqb (of_z w32 error) 4) Interrupted Failed
+-- an error of the kind: interrupted, or failed
+abbrev pub unmoved_of_kind : ErrorKind → Moved
+unmoved_of_kind kind.Interrupted = Interrupted
+unmoved_of_kind _ = Failed
 
--- An answer about at most so many bytes, with the error that goes with one below 0.
-unfoldable pub moved_of : ℤ → ℤ → ℕ → Moved
-moved_of got error most = cond (eqb (clamp_len got most) 0) (cond (eqb (of_z w64 got) 0) Nothing (unmoved_of error)) (Bytes (clamp_len got most))
+-- an error: interrupted, or failed
+abbrev pub unmoved_of : Error → Moved
+unmoved_of error = unmoved_of_kind (error_kind error)
+
+-- an answer: so many bytes, none, or an error
+abbrev pub moved_of : Result ℕ Error → Moved
+moved_of (Ok n) = if n == 0 then Nothing else Bytes n
+moved_of (Err error) = unmoved_of error
 
 -- what was moved stands behind `done` bytes, within `size`
 abbrev pub Moves : ℕ → ℕ → Moved → Type 0
@@ -36,3 +44,9 @@ abbrev pub Within : Input → List ℕ → Type 0
 Within (Whole size) buffer = size < length buffer
 Within TooLong buffer = Unit {0}
 Within Unreadable buffer = Unit {0}
+
+-- where what a reader has left is known: a whole input is all of it, and one that is too long begins with what fills the buffer
+abbrev pub Reads : Option (List ℕ) → Input → List ℕ → Type 0
+Reads known (Whole size) buffer = IfSome known (λ xs. take size buffer ≡ xs)
+Reads known TooLong buffer = IfSome known (λ xs. take (length buffer) xs ≡ buffer)
+Reads known Unreadable buffer = Unit {0}

@@ -1,14 +1,17 @@
-// An input read to its end, and an output written whole, over the C library's `read` and `write`.
-// No contract can say which bytes the system reads or writes. What is proved: what one answer of the system means, so that a failed or
-// interrupted call is not the end; that only the end makes an input whole (`input_of`), and a full buffer never does; that a read leaves
-// what was read before; and that `print` never answers true where what stood before was not written. That the loops hand on what each
-// call meant is to be read in them.
+// An input read to its end, and an output written whole, over any reader and any writer.
+// Which bytes the system reads or writes no contract can say. Of a reader and a writer that do say which bytes they have it is proved
+// that a whole input is all that the reader had, that one which is too long fills the buffer with the first of it, and that `print`
+// answers true only where the writer got all the bytes. Of any it is proved what an answer means, so that a call that failed or was
+// interrupted is not the end; that only the end makes an input whole (`input_of`), and a full buffer never does; and that `print`
+// never answers true where what stood before was not written.
 
 #![tactic(auto)]
 
 mod input; // an input, read to its end
 mod moved; // what an answer of the system means
 mod output; // an output, written whole
+mod reason; // why a call failed, on standard error
 
 pub use input::{Input, read_to_end};
-pub use output::{print, print_number};
+pub use output::{Printer, print, print_number};
+pub use reason::fail;

@@ -1,8 +1,8 @@
-// What the system's answer to a `read` or a `write` means.
-ghost use Rattle.std.specs.Prelude.{◌≡◌, length};
+// What an answer to a `read` or a `write` means.
+ghost use Rattle.std.specs.Prelude.{◌≡◌};
 ghost use Rattle.streams.specs.Moving.{unmoved_of, moved_of};
 
-use libc::EINTR;
+use std::io::{Error, ErrorKind, Result};
 
 // So many bytes moved; none, which is a read's end; interrupted before a byte was moved; or failed.
 #[derive(Clone, Copy)]
@@ -16,26 +16,23 @@ pub(crate) enum Moved {
 // A call that is interrupted so often has failed: a proved loop has to end, and nothing says that interruptions do.
 pub(crate) const TRIES: u32 = 1_000_000;
 
-// The meaning of an answer below 0, by the error that goes with it.
-fn unmoved(error: i32) -> Moved
+// The meaning of an error.
+fn unmoved(error: Error) -> Moved
     ensures { result ≡ unmoved_of error }
 {
-    if error == EINTR {
+    if error.kind() == ErrorKind::Interrupted {
         return Moved::Interrupted;
     }
     Moved::Failed
 }
 
-// The meaning of an answer about the bytes, by the error that goes with it.
-pub(crate) fn meaning(got: isize, error: i32, bytes: &[u8]) -> Moved
-    ensures { result ≡ moved_of got error (length bytes.now) }
+// The meaning of an answer.
+pub(crate) fn meaning(got: Result<usize>) -> Moved
+    ensures { result ≡ moved_of got }
 {
-    let count = io::count(got, bytes);
-    if count != 0 {
-        return Moved::Bytes(count);
+    match got {
+        Ok(0) => Moved::Nothing,
+        Ok(count) => Moved::Bytes(count),
+        Err(error) => unmoved(error),
     }
-    if got == 0 {
-        return Moved::Nothing;
-    }
-    unmoved(error)
 }
