@@ -23,8 +23,8 @@ use Rattle.totals.specs.TapeLength.{most_tape}
 use Rattle.totals.proofs.Tape.{call_adds_up}
 use Rattle.totals.proofs.TapeLength.{tape_at_most}
 use Rattle.planner.specs.WithFinder.{turned_away, outcome_with}
-use Rattle.planner.specs.LosesNothing.{Leaves, PlanLosesNothing, PlanPlacesByManual}
-use Rattle.planner.specs.PlacesNear.{PlanPlacesNear, PlanPlacesByReferences}
+use Rattle.planner.specs.LosesNothing.{PlanLosesNothing, PlanPlacesByManual}
+use Rattle.planner.specs.PlacesNear.{Leaves, PlanPlacesNear, PlanPlacesByReferences}
 use Rattle.planner.specs.Totals.{PlanAddsUp, PlanTapeAtMost, FinderTapeAtMost}
 use Rattle.planner.proofs.Finders.{agrees_or_turned_away}
 

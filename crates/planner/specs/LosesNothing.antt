@@ -21,18 +21,15 @@ pub record AcceptedCall (sheet : List ℕ) (query : SceneOptions) (hidden out co
   pub met : outcome a out₁ counts₁ marks₁ ≡ outcome_of sheet (asked query hidden) out counts marks
   pub accepted : number_of a ≡ 0
 
--- what an accepted call leaves is the tape of events of which F holds
-abbrev pub Leaves : List ℕ → SceneOptions → List ℕ → List ℕ → List ℕ → List ℕ → (Trace → Type 0) → Type 0
-Leaves sheet query hidden out counts marks F = (a : Answer) (out₁ counts₁ marks₁ : List ℕ) → AcceptedCall sheet query hidden out counts marks a out₁ counts₁ marks₁
-    → (trace : Trace) × IsTape sheet (asked query hidden) (outcome a out₁ counts₁ marks₁) trace out × F trace
-
--- Demand 3: they lose nothing.
+-- Demand 3: the bytes that an accepted call leaves are the tape of events that lose nothing.
 abbrev pub PlanLosesNothing : Type 0
 PlanLosesNothing = (sheet : List ℕ) (query : SceneOptions) (hidden out counts marks : List ℕ)
     → Square (sheet_of sheet) → TrueBoxes (sheet_of sheet) → WholeView query.view → Yes (le query.zoom (fin false 1 (pos zoom_power)))
-    → Leaves sheet query hidden out counts marks (LosesNothing (sheet_of sheet) (asked query hidden))
+    → (a : Answer) (out₁ counts₁ marks₁ : List ℕ) → AcceptedCall sheet query hidden out counts marks a out₁ counts₁ marks₁
+    → (trace : Trace) × IsTape sheet (asked query hidden) (outcome a out₁ counts₁ marks₁) trace out × LosesNothing (sheet_of sheet) (asked query hidden) trace
 
--- Demand 2: on a square sheet every record stands where the manual's placing along its path puts it.
+-- Demand 2: on a square sheet every record of these bytes stands where the manual's placing along its path puts it.
 abbrev pub PlanPlacesByManual : Type 0
 PlanPlacesByManual = (sheet : List ℕ) (query : SceneOptions) (hidden out counts marks : List ℕ) → Square (sheet_of sheet)
-    → Leaves sheet query hidden out counts marks (PlacedByManual (sheet_of sheet) (asked query hidden))
+    → (a : Answer) (out₁ counts₁ marks₁ : List ℕ) → AcceptedCall sheet query hidden out counts marks a out₁ counts₁ marks₁
+    → (trace : Trace) × IsTape sheet (asked query hidden) (outcome a out₁ counts₁ marks₁) trace out × PlacedByManual (sheet_of sheet) (asked query hidden) trace

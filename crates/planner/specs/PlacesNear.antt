@@ -2,12 +2,21 @@
 -- Definitions only; rests on `LosesNothing` and on the words of `slanted`.
 use Rattle.std.specs.Prelude.{List, ℕ}
 use Rattle.abstract_sheet.specs.Sheet.{sheet_of}
+use Rattle.plan_rules.specs.declared.Answer.{Answer}
 use Rattle.plan_rules.specs.declared.SceneOptions.{SceneOptions}
 use Rattle.plan_rules.specs.OnTape.{asked}
+use Rattle.plan_rules.specs.Outcome.{outcome}
+use Rattle.cover.specs.Trace.{Trace}
+use Rattle.cover.specs.Demand3.{IsTape}
 use Rattle.fractions.specs.Errors.{position_error, most_bounded}
 use Rattle.slanted.specs.Sheet.{SlantedSheet}
 use Rattle.slanted.specs.Slanted.{PlacesWithin, most_references, sixty_fourth}
-use Rattle.planner.specs.LosesNothing.{Leaves}
+use Rattle.planner.specs.LosesNothing.{AcceptedCall}
+
+-- what an accepted call leaves is the tape of events of which F holds
+abbrev pub Leaves : List ℕ → SceneOptions → List ℕ → List ℕ → List ℕ → List ℕ → (Trace → Type 0) → Type 0
+Leaves sheet query hidden out counts marks F = (a : Answer) (out₁ counts₁ marks₁ : List ℕ) → AcceptedCall sheet query hidden out counts marks a out₁ counts₁ marks₁
+    → (trace : Trace) × IsTape sheet (asked query hidden) (outcome a out₁ counts₁ marks₁) trace out × F trace
 
 -- On a slanted sheet every record of a text or node point at a path with at most `most` references is within E n / 2 ^ k of its exact position, n of them being on the path.
 module _ (most : ℕ) (E : ℕ → ℕ) (k : ℕ) where
