@@ -1,0 +1,61 @@
+-- `enter_cell::enter_cell` meets its contract: each way out by its law in `FoundCell`.
+-- Assumes nothing.
+use Rattle.std.proofs.Common.{◌≡◌, sym, ap, ◌∙◌, List, ℕ}
+use Rattle.geometry.specs.declared.bbox.Bounds.{Bounds}
+use Rattle.geometry.specs.declared.placement.Placement.{Placement}
+use Rattle.geometry.specs.Bbox.{transform_bounds}
+use Rattle.plan_rules.specs.Event.{detail_cell}
+use Rattle.plan_rules.specs.World.{world}
+use Rattle.plan_rules.specs.OnTape.{say}
+use Rattle.enter_cell.proofs.FoundCell.{cell_outside, cell_detail_full, cell_exhausted, cell_open, cell_entered}
+use Rattle.events.proofs.Over.{is_over}
+use Rattle.enter_cell.proofs.enter_cell.Goals as goal
+
+-- the placed box is that of the record, whose box is the one given
+placed : (p : Placement) {a b made : Bounds} → made ≡ transform_bounds p b → a ≡ b → made ≡ transform_bounds p a
+placed p e given = e ∙ ap (transform_bounds p) (sym given)
+
+pub returns-then-is_outside : goal.returns-then-is_outside
+returns-then-is_outside c =
+    λ g on d k e.
+    is_over _ _ _ _ _ k _ c.over.ensures
+    ∙ cell_outside g on _ _ d _ _ (placed c.args.transform c.transform_bounds-bounds.ensures e)
+    (sym c.is_outside.ensures ∙ c.if-is_outside.true)
+
+pub returns-then-detail_cells_full : goal.returns-then-detail_cells_full
+returns-then-detail_cells_full c =
+    λ g on d k e.
+    is_over _ _ _ _ _ k _ c.over-then-detail_cells_full.ensures
+    ∙ cell_detail_full g on _ _ d _ _ (placed c.args.transform c.transform_bounds-bounds.ensures e)
+    (sym c.is_outside.ensures ∙ c.if-is_outside.false)
+    (sym c.detail_cells_full.ensures ∙ c.if-detail_cells_full.true) _ (c.add_load_if_boxed-boxed.ensures k _)
+
+pub returns-then-detail_budget_exhausted : goal.returns-then-detail_budget_exhausted
+returns-then-detail_budget_exhausted c =
+    λ g on d k e.
+    is_over _ _ _ _ _ k _ c.over-then-detail_budget_exhausted.ensures
+    ∙ cell_exhausted g on _ _ d _ _ (placed c.args.transform c.transform_bounds-bounds.ensures e)
+    (sym c.is_outside.ensures ∙ c.if-is_outside.false)
+    (sym c.detail_cells_full.ensures ∙ c.if-detail_cells_full.false)
+    (sym (c.detail_budget_exhausted.ensures g.hidden) ∙ c.if-detail_budget_exhausted.true) _
+    (c.add_load_if_boxed-boxed-then-detail_budget_exhausted.ensures k _)
+
+pub returns-then-stack_contains : goal.returns-then-stack_contains
+returns-then-stack_contains c =
+    λ g on d k e.
+    is_over _ _ _ _ _ k _ c.over-then-stack_contains.ensures
+    ∙ cell_open g on _ _ d _ _ (placed c.args.transform c.transform_bounds-bounds.ensures e)
+    (sym c.is_outside.ensures ∙ c.if-is_outside.false)
+    (sym c.detail_cells_full.ensures ∙ c.if-detail_cells_full.false)
+    (sym (c.detail_budget_exhausted.ensures g.hidden) ∙ c.if-detail_budget_exhausted.false)
+    (sym c.stack_contains.ensures ∙ c.if-stack_contains.true) _ (c.add_load_if_boxed-boxed-then-stack_contains.ensures k _)
+
+pub returns : goal.returns
+returns c =
+    λ g on d k e.
+    cell_entered g on _ _ d _ _ (placed c.args.transform c.transform_bounds-bounds.ensures e)
+    (sym c.is_outside.ensures ∙ c.if-is_outside.false)
+    (sym c.detail_cells_full.ensures ∙ c.if-detail_cells_full.false)
+    (sym (c.detail_budget_exhausted.ensures g.hidden) ∙ c.if-detail_budget_exhausted.false)
+    (sym c.stack_contains.ensures ∙ c.if-stack_contains.false) _
+    (c.count_detail_cell-opened.ensures _ k _ ∙ ap (λ (m : List ℕ). say detail_cell (world c.args.plan c.args.out.now k m)) c.stack_insert.ensures)
