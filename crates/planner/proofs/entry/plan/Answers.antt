@@ -1,0 +1,16 @@
+-- `planner::plan` meets its contract: the sheet's own check decides questions 1 to 7, and `plan_sound` the others, without a finder.
+-- Assumes nothing.
+use mathlib.Core.Path.{sym, ◌∙◌}
+use Rattle.check_sheet.proofs.Verdict.{checked_as}
+use Rattle.plan_rules.proofs.OutcomeTheorem.{sheet_refused}
+use Rattle.planner.proofs.Finders.{none_seen}
+use borrow.Author.Rules.{rules}
+use Rattle.planner.proofs.entry.plan.Goals as goal
+
+pub returns-in-Refused : goal.returns-in-Refused
+returns-in-Refused c =
+    sym (sheet_refused _ _ _ _ _ _ _ _ (sym (checked_as _ _ c.check_sheet.ensures) ∙ c.in-Refused.is))
+
+pub returns-in-Sound : goal.returns-in-Sound
+returns-in-Sound c =
+    c.plan_sound.ensures ∙ none_seen _ _ _ _ _ _ (sym (checked_as _ _ c.check_sheet.ensures) ∙ c.in-Sound.is)
