@@ -1,7 +1,6 @@
 -- What an input is answered, and what stands in every lent place after it: the contracts equate a call to these definitions.
 -- Definitions only; rests on plan_query's reading of the query, on opening a sheet and on the rules' outcome of a call.
 use Rattle.std.specs.Prelude.{◌≡◌, List, ℕ, take, drop}
-use Rattle.std.specs.Borrow.{MutBor}
 use Rattle.streams.specs.declared.input.Input.{Input}
 use Rattle.streams.specs.declared.input.Input.TheVariants.{Whole, TooLong, Unreadable}
 use Rattle.plan_query.specs.declared.QueryRecord.{QueryRecord}
@@ -31,10 +30,10 @@ reply r f h o k m = record { text = text_from r o 0; end = tape_end r; finder = 
 
 -- what a call promises: its answer, and what it leaves in the lent places, are the definition's of what stood there before
 abbrev pub Replies : (List ℕ → List ℕ → List ℕ → List ℕ → List ℕ → Reply) → Printed
-    → MutBor (List ℕ) → MutBor (List ℕ) → MutBor (List ℕ) → MutBor (List ℕ) → MutBor (List ℕ)
-    → MutBor (List ℕ) → MutBor (List ℕ) → MutBor (List ℕ) → MutBor (List ℕ) → MutBor (List ℕ) → Type 0
+    → List ℕ → List ℕ → List ℕ → List ℕ → List ℕ
+    → List ℕ → List ℕ → List ℕ → List ℕ → List ℕ → Type 0
 Replies definition r finder hidden tape counts marks finder₀ hidden₀ tape₀ counts₀ marks₀ =
-    reply r finder.now hidden.now tape.now counts.now marks.now ≡ definition finder₀.now hidden₀.now tape₀.now counts₀.now marks₀.now
+    reply r finder hidden tape counts marks ≡ definition finder₀ hidden₀ tape₀ counts₀ marks₀
 
 abbrev pub reply_of_outcome : Outcome → List ℕ → List ℕ → Reply
 reply_of_outcome c f h = record { text = outcome_text c; end = outcome_end c; finder = f; hidden = h; tape = c.out; counts = c.counts; marks = c.marks }

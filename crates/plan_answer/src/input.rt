@@ -20,10 +20,10 @@ fn plan_query(
     counts: &mut [u64],
     marks: &mut [u8],
 ) -> Printed
-    requires sheet_in_bounds { query.sheet ≤ length input.now }
-    requires hidden_in_bounds { query.hidden ≤ length hidden.now }
-    ensures replies { Replies (reply_of_query input.now query) result finder.exit hidden.entry tape.exit counts.exit marks.exit finder.entry hidden.entry tape.entry counts.entry marks.entry }
-    ensures result_in_bounds { tape_end result ≤ length tape.new }
+    requires sheet_within { query.sheet ≤ length input.now }
+    requires layers_within { query.hidden ≤ length hidden.now }
+    ensures replies { Replies (reply_of_query input.now query) result finder.new hidden.now tape.new counts.new marks.new finder.old hidden.now tape.old counts.old marks.old }
+    ensures within { tape_end result ≤ length tape.new }
 {
     let sheet = query.sheet;
     let layers = query.hidden;
@@ -52,8 +52,8 @@ pub fn answer(
     counts: &mut [u64],
     marks: &mut [u8],
 ) -> Printed
-    ensures replies { Replies (reply_of input.now) result finder.exit hidden.exit tape.exit counts.exit marks.exit finder.entry hidden.entry tape.entry counts.entry marks.entry }
-    ensures result_in_bounds { tape_end result ≤ length tape.new }
+    ensures replies { Replies (reply_of input.now) result finder.new hidden.new tape.new counts.new marks.new finder.old hidden.old tape.old counts.old marks.old }
+    ensures within { tape_end result ≤ length tape.new }
 {
     let first = plan_query::read_query(input, hidden);
     match first {
@@ -74,8 +74,8 @@ pub fn answer_input(
     marks: &mut [u8],
 ) -> Printed
     requires { Within input buffer.now }
-    ensures replies { Replies (reply_of_input buffer.now input) result finder.exit hidden.exit tape.exit counts.exit marks.exit finder.entry hidden.entry tape.entry counts.entry marks.entry }
-    ensures result_in_bounds { tape_end result ≤ length tape.new }
+    ensures replies { Replies (reply_of_input buffer.now input) result finder.new hidden.new tape.new counts.new marks.new finder.old hidden.old tape.old counts.old marks.old }
+    ensures within { tape_end result ≤ length tape.new }
 {
     match input {
         Input::Whole(size) => answer(&buffer[..size], finder, hidden, tape, counts, marks),

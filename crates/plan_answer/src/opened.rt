@@ -17,9 +17,9 @@ pub fn plan_opened(
     counts: &mut [u64],
     marks: &mut [u8],
 ) -> Answer
-    ensures marks_value { answers result tape.exit counts.exit marks.exit
+    ensures outcome { answers result tape.exit counts.exit marks.exit
         ≡ plan_outcome sheet.entry query hidden.entry tape.entry counts.entry marks.entry }
-    ensures finder_after { finder.new ≡ (opening_of sheet.now finder.old).finder }
+    ensures finder_left { finder.new ≡ (opening_of sheet.now finder.old).finder }
 {
     if let Opened::Open(_) = open_sheet::open_sheet(sheet, finder) {
         return planner::plan_with_finder(sheet, finder, query, hidden, tape, counts, marks);

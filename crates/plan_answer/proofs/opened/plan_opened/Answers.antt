@@ -1,0 +1,15 @@
+-- `plan_answer::opened::plan_opened` meets its contract: in its own list an open sheet is planned as without one.
+-- Assumes nothing.
+use mathlib.Core.Path.{◌∙◌}
+use borrow.Author.Rules.{rules}
+use Rattle.plan_answer.proofs.OwnFinder.{left_finder, opened_agrees}
+use Rattle.plan_answer.proofs.opened.plan_opened.Goals as goal
+
+pub returns-in-Open : goal.returns-in-Open
+returns-in-Open c =
+    let is = c.in-Open.is in
+    record { outcome = c.plan_with_finder.ensures ∙ opened_agrees _ _ _ c.open_sheet.result c.open_sheet.ensures is _ _ _ _; finder_left = left_finder _ _ _ c.open_sheet.result c.open_sheet.ensures }
+
+pub returns : goal.returns
+returns c =
+    record { outcome = c.plan.ensures; finder_left = left_finder _ _ _ c.open_sheet.result c.open_sheet.ensures }
