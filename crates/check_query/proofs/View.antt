@@ -1,9 +1,8 @@
 -- Question 8 by code path: one law for each exit of `view_ok`, its premises the answers of the tests before it.
 -- Assumes nothing.
 use mathlib.Core.Path.{◌≡◌}
-use mathlib.Core.Bool.{Bool, true, false, not}
+use mathlib.Core.Bool.{Bool, true, false}
 use lib.Ieee.{le}
-use borrow.Author.Tests.{not-true, not-false}
 use Rattle.floats.specs.Order.{is_finite}
 use Rattle.geometry.specs.declared.bbox.WorldBBox.{WorldBBox}
 use Rattle.plan_rules.specs.Questions.{view_ok}

@@ -1,13 +1,13 @@
 -- A record is written if it fits: what the test for room says of `put_record`, one law for each way, over the record's fields.
 -- Assumes nothing.
 use mathlib.Core.Path.{◌≡◌, refl, sym, ap, ◌∙◌}
-use mathlib.Core.Bool.{Bool, true, false, not}
+use mathlib.Core.Bool.{Bool, true, false}
 use mathlib.Core.List.{List, [], ◌∷◌}
 use Prim.Native.Nat.{ℕ, ◌+◌, ◌%◌, ◌≤◌, ◌<◌}
 use lib.ListN.{length}
 use lib.Seq.{sets}
 use lib.Dec.{leb}
-use borrow.Author.Tests.{lt-leb, leb-true, leb-false, not-true, not-false}
+use borrow.Author.Tests.{lt-leb, leb-true, leb-false}
 use Rattle.fields.specs.Field.{Field, widths, uint_bytes, record_bytes}
 use Rattle.fields.proofs.Writing.{uint_bytes_mod}
 use Rattle.plan_rules.specs.Tape.{put_record}

@@ -23,7 +23,7 @@ use Rattle.records.specs.declared.PreparedReference.{PreparedReference}
 use Rattle.records.specs.Sources.{no_label, label}
 use Rattle.abstract_sheet.specs.Sheet.{NodeRecord, CellRecord, Sheet}
 use Rattle.plan_rules.specs.declared.Reason.TheVariants as reason
-use Rattle.plan_rules.specs.Event.{batch, text, point, skipped_member, skipped_batch, culled_reference, culled_batch, detail_cell, ◌⊞◌, empty_plan, after}
+use Rattle.plan_rules.specs.Event.{batch, text, skipped_member, skipped_batch, culled_reference, culled_batch, detail_cell, ◌⊞◌, empty_plan, after}
 use Rattle.plan_rules.specs.World.{Query, hides, detail_cells_full, detail_budget_exhausted, world, go, halt, bind, ending, each, set_mark}
 use Rattle.plan_rules.specs.Scratch.{open_place, is_marked}
 use Rattle.plan_rules.specs.DrawUnits.{Units, reference_draw_units}

@@ -14,7 +14,6 @@ use Rattle.check_sheet.specs.declared.Checked.{Checked}
 use Rattle.check_sheet.specs.declared.Checked.TheVariants as checked
 use Rattle.check_sheet.specs.Check.{check_sheet}
 use Rattle.plan_rules.specs.declared.ScenePlan.{ScenePlan}
-use Rattle.plan_rules.specs.declared.Answer.TheVariants.{Refused}
 use Rattle.plan_rules.specs.Limits.{max_depth, max_scene_objects, max_text_instances, max_load_proxies}
 use Rattle.plan_rules.specs.Event.{Event, batch, text, point, proxy, dropped_proxy, skipped_member, skipped_batch, culled_reference, culled_batch, detail_cell, totals, ◌⊞◌, empty_plan, amounts, after}
 use Rattle.plan_rules.specs.World.{Query, detail_budget_exhausted, world}

@@ -1,7 +1,6 @@
 -- `check_query::has_scratch` meets its contract. Assumes nothing.
 use borrow.Author.Tests.{le-leb, lt-leb}
 use Rattle.plan_rules.specs.Questions.{has_scratch}
-use borrow.Author.Rules.{rules}
 use Rattle.check_query.proofs.has_scratch.Goals as goal
 
 pub returns-then-counts_len-counts_named : goal.returns-then-counts_len-counts_named

@@ -1,9 +1,8 @@
 -- `check_query::query_refusal` meets its contract: the questions are asked in order, and the first no is given.
 -- Assumes nothing.
 use mathlib.Core.Path.{sym, ◌∙◌}
-use borrow.Author.Tests.{le-leb, lt-leb, not-true, not-false}
+use borrow.Author.Tests.{le-leb, lt-leb}
 use Rattle.plan_rules.specs.Questions.{depth_ok, query_refusal_up_to}
-use borrow.Author.Rules.{rules}
 use Rattle.check_query.proofs.query_refusal.Goals as goal
 
 pub returns-then-not-view_ok : goal.returns-then-not-view_ok

@@ -1,7 +1,6 @@
 -- `check_query::view_ok` meets its contract: each exit by its law in `View`.
 -- Assumes nothing.
 use Rattle.check_query.proofs.View.{infinite_min_x, infinite_min_y, infinite_max_x, infinite_max_y, turned_x, order_y_decides}
-use borrow.Author.Rules.{rules}
 use Rattle.check_query.proofs.view_ok.Goals as goal
 
 pub returns-then-not-f64_is_finite : goal.returns-then-not-f64_is_finite

@@ -1,8 +1,6 @@
 -- `check_query::zoom_ok` meets its contract. Assumes nothing.
 use lib.Ieee.{of_bits, of_fields, odd}
-use borrow.Author.Tests.{not-true, not-false}
 use Rattle.plan_rules.specs.Questions.{zoom_ok}
-use borrow.Author.Rules.{rules}
 use Rattle.check_query.proofs.zoom_ok.Goals as goal
 
 pub returns-then-not-f64_is_finite : goal.returns-then-not-f64_is_finite

@@ -3,7 +3,6 @@
 use mathlib.Core.Path.{sym, ◌∙◌}
 use Rattle.check_record.specs.Record.{record_refusal}
 use Rattle.check_record.proofs.RightRecords.{frame_whole}
-use borrow.Author.Rules.{rules}
 use Rattle.check_record.proofs.record_refusal.Goals as goal
 
 pub shape_ok-requires : goal.shape_ok-requires

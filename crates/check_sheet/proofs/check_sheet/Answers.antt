@@ -14,7 +14,6 @@ use Rattle.check_sheet.specs.Count.{counts_of}
 use Rattle.check_sheet.specs.Check.{first_no, first_unnamed, verdict}
 use Rattle.check_sheet.proofs.Passes.{sound_all_right}
 use Rattle.check_sheet.proofs.Answers.{too_long, record_refused, too_many_cells, then_links}
-use borrow.Author.Rules.{rules}
 use Rattle.check_sheet.proofs.check_sheet.Goals as goal
 
 -- what the first pass says where it answers counts

@@ -2,7 +2,6 @@
 -- Assumes nothing.
 use mathlib.Core.Path.{sym, ap, ◌∙◌}
 use Rattle.check_sheet.specs.Check.{Verdict, verdict}
-use borrow.Author.Rules.{rules}
 use Rattle.check_sheet_c.proofs.sheet_check.Goals as goal
 
 pub returns-in-Sound : goal.returns-in-Sound

@@ -2,7 +2,6 @@
 use mathlib.Core.Path.{ap, ◌∙◌}
 use lib.Ieee.{binary64, of_bits}
 use Rattle.fields.specs.Field.{f64_at}
-use borrow.Author.Rules.{rules}
 use Rattle.fields.proofs.f64_at.Goals as goal
 
 pub returns : goal.returns

@@ -1,5 +1,4 @@
 -- `fields::put_f64` meets its contract. Assumes nothing.
-use borrow.Author.Rules.{rules}
 use Rattle.fields.specs.Field.{f64_bytes}
 use Rattle.fields.proofs.put_f64.Goals as goal
 

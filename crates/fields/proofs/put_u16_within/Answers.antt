@@ -5,7 +5,6 @@ use mathlib.Core.Path.{ap₂}
 use native.Mathlib.Numerals.{add-one}
 use lib.ListN.{set, length-set}
 use Rattle.fields.specs.Field.{uint_bytes}
-use borrow.Author.Rules.{rules}
 use Rattle.fields.proofs.put_u16_within.Goals as goal
 
 pub bounds-d-at-2 : goal.bounds-d-at-2

@@ -1,6 +1,5 @@
 -- `fields::put_u32` meets its contract. Assumes nothing.
 use Rattle.fields.proofs.Halves.{write_halves, write_past_end}
-use borrow.Author.Rules.{rules}
 use Rattle.fields.proofs.put_u32.Goals as goal
 
 pub returns-then-at-d : goal.returns-then-at-d

@@ -1,6 +1,5 @@
 -- `fields::put_u64_within` meets its contract. Assumes nothing.
 use Rattle.fields.proofs.Halves.{write_halves}
-use borrow.Author.Rules.{rules}
 use Rattle.fields.proofs.put_u64_within.Goals as goal
 
 pub returns : goal.returns

@@ -2,7 +2,6 @@
 use mathlib.Core.Path.{sym}
 use Rattle.fields.proofs.Reading.{uint_at_past_end}
 use Rattle.fields.proofs.Halves.{read_halves}
-use borrow.Author.Rules.{rules}
 use Rattle.fields.proofs.u32_at.Goals as goal
 
 pub returns-then-at-s : goal.returns-then-at-s

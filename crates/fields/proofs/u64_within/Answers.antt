@@ -1,6 +1,5 @@
 -- `fields::u64_within` meets its contract. Assumes nothing.
 use Rattle.fields.proofs.Halves.{read_halves}
-use borrow.Author.Rules.{rules}
 use Rattle.fields.proofs.u64_within.Goals as goal
 
 pub returns : goal.returns

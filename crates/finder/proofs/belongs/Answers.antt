@@ -1,15 +1,12 @@
 -- `finder::belongs` meets its contract. The loop's invariant: the records from here on are right, and the list agrees so far.
 -- Assumes nothing.
-use Prim.Native.Nat.{ℕ, ◌+◌, ◌-◌}
+use Prim.Native.Nat.{ℕ, ◌+◌}
 use mathlib.Core.Path.{sym, ap, subst, ◌∙◌}
 use mathlib.Core.List.{List, ◌∷◌}
 use native.Mathlib.Omega.{arith}
-use lib.ListN.{length}
 use borrow.Author.Rules.{rules}
 use Rattle.walk.specs.Offsets.{length_at, offsets_from, offsets}
-use Rattle.walk.specs.Every.{All}
 use Rattle.walk.proofs.Offsets.{offsets_within, offsets_end}
-use Rattle.check_record.specs.Record.{Right}
 use Rattle.check_sheet.proofs.Valid.{valid_from_start}
 use Rattle.finder.specs.Finder.{starts_of}
 use Rattle.finder.proofs.Running.{AtHand, at_hand}

@@ -1,17 +1,9 @@
-use Prim.Native.Nat.{ℕ, ◌+◌, ◌-◌}
-use mathlib.Core.Path.{sym, ap, subst, ◌∙◌}
-use mathlib.Core.List.{List, ◌∷◌}
-use native.Mathlib.Omega.{arith}
+use Prim.Native.Nat.{◌-◌}
 use lib.ListN.{length}
-use borrow.Author.Rules.{rules}
-use Rattle.walk.specs.Offsets.{length_at, offsets_from, offsets}
+use Rattle.walk.specs.Offsets.{offsets_from}
 use Rattle.walk.specs.Every.{All}
-use Rattle.walk.proofs.Offsets.{offsets_within, offsets_end}
 use Rattle.check_record.specs.Record.{Right}
-use Rattle.check_sheet.proofs.Valid.{valid_from_start}
-use Rattle.finder.specs.Finder.{starts_of}
-use Rattle.finder.proofs.Running.{AtHand, at_hand}
-use Rattle.finder.proofs.Agreeing.{Agrees, agrees_start, agrees_next, missing_place, other_offset, agrees_end}
+use Rattle.finder.proofs.Agreeing.{Agrees}
 use Rattle.finder.proofs.belongs.Given as goal
 
 abbrev pub invariant-loop-at : goal.invariant-loop-at

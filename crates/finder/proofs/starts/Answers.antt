@@ -1,7 +1,6 @@
 -- `finder::starts` meets its contract.
 -- Assumes nothing.
 use mathlib.Core.List.{[], ◌∷◌}
-use borrow.Author.Rules.{rules}
 use Rattle.finder.proofs.starts.Goals as goal
 
 pub returns : goal.returns

@@ -5,7 +5,6 @@ use native.Mathlib.Omega.{arith}
 use Rattle.geometry.specs.Bbox.{merge}
 use Rattle.grid.specs.Grid.{corners_to}
 use Rattle.grid.proofs.OneMember.{one_member}
-use borrow.Author.Rules.{rules}
 use Rattle.grid.proofs.corners_bbox.Goals as goal
 
 pub returns-then-column-row-eq0 : goal.returns-then-column-row-eq0

@@ -4,7 +4,6 @@ use Rattle.geometry.specs.declared.placement.DVec2.{DVec2}
 use Rattle.geometry.specs.Rounded.{◌⊕◌}
 use Rattle.geometry.specs.Placement.{vec, from_cols}
 use Rattle.grid.specs.Grid.{offset, rotated, scaled, grid_member_transform}
-use borrow.Author.Rules.{rules}
 use Rattle.grid.proofs.grid_member_transform.Goals as goal
 
 pub returns : goal.returns

@@ -3,7 +3,6 @@ use mathlib.Core.Path.{ap, ◌∙◌}
 use Rattle.geometry.specs.declared.placement.Placement.{Placement}
 use Rattle.geometry.specs.Bbox.{transform_bbox}
 use Rattle.grid.specs.Grid.{member_bbox}
-use borrow.Author.Rules.{rules}
 use Rattle.grid.proofs.member_bbox.Goals as goal
 
 pub returns : goal.returns

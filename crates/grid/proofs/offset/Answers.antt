@@ -1,7 +1,6 @@
 -- `grid::offset` meets its contract. Assumes nothing.
 use mathlib.Core.Path.{refl}
 use Rattle.grid.specs.Grid.{offset}
-use borrow.Author.Rules.{rules}
 use Rattle.grid.proofs.offset.Goals as goal
 
 pub returns : goal.returns

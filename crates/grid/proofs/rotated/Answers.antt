@@ -1,7 +1,6 @@
 -- `grid::rotated` meets its contract. Assumes nothing.
 use Rattle.geometry.specs.Placement.{vec}
 use Rattle.grid.specs.Grid.{rotated}
-use borrow.Author.Rules.{rules}
 use Rattle.grid.proofs.rotated.Goals as goal
 
 pub returns : goal.returns

@@ -2,7 +2,6 @@
 -- Assumes nothing.
 use native.Mathlib.Omega.{arith}
 use Rattle.limits.proofs.Totals.{sum_within, sum_stops}
-use borrow.Author.Rules.{rules}
 use Rattle.limits.proofs.saturating_add.Goals as goal
 
 pub returns-then-a-b : goal.returns-then-a-b

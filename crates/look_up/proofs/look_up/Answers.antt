@@ -1,7 +1,6 @@
 -- `look_up::look_up` meets its contract: it walks where the finder is empty, and reads the finder else.
 -- Assumes nothing.
 use mathlib.Core.Path.{sym, ◌∙◌}
-use borrow.Author.Rules.{rules}
 use Rattle.look_up.proofs.Looking.{look_walks, look_reads}
 use Rattle.look_up.proofs.look_up.Goals as goal
 

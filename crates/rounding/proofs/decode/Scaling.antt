@@ -4,7 +4,7 @@ use Rattle.std.proofs.Common.{◌≡◌, ℕ, suc, ◌+◌, ◌-◌, ◌*◌, �
 use native.Mathlib.Nat.{mul-mod_left}
 use Rattle.rounding.specs.Fields.{significand_of, exponent_of, Normalised}
 use Rattle.rounding.proofs.nearest.Normalising.{IsLeadingZeros}
-use Rattle.rounding.proofs.decode.Reading.{exponent_lt, significand_lt, value}
+use Rattle.rounding.proofs.decode.Reading.{exponent_lt, significand_lt}
 
 pub normalised_zero : (n : ℕ) → significand_of n ≡ 0 → Normalised n 0 0
 normalised_zero n z = record {

@@ -15,7 +15,6 @@ use Rattle.rounding.proofs.Naturals.{lt_or_ge}
 use Rattle.rounding.proofs.nearest.HalfUnit.{nearest_below_half}
 use Rattle.rounding.proofs.RoundToOdd.{nearest_of_to_odd}
 use Rattle.rounding.proofs.nearest.Patterns.{round_bits, rounded_magnitude, size_exact, to_bits_inf}
-use Rattle.rounding.proofs.decode.Signs.{with_sign}
 
 -- ---- what a number m of 64 digits that is n / d rounded to odd says of n / d
 range_lo : (m n d : ℕ) → 2 ^ 63 ≤ m → RoundsToOdd m n d → 2 ^ 63 * d ≤ n

@@ -3,7 +3,6 @@ use mathlib.Core.Path.{sym, ap, ◌∙◌}
 use lib.Ieee.{Float, binary32, mul, div, le}
 use Rattle.screen.specs.Screen.{average_area_within}
 use Rattle.geometry.proofs.Flags.{and_asked, and_decided}
-use borrow.Author.Rules.{rules}
 use Rattle.screen.proofs.average_area_within.Goals as goal
 
 pub returns-then-f32_is_finite : goal.returns-then-f32_is_finite

@@ -1,7 +1,6 @@
 -- `screen::is_dense` meets its contract. Assumes nothing.
 use lib.Ieee.{of_bits}
 use Rattle.screen.specs.Screen.{is_dense}
-use borrow.Author.Rules.{rules}
 use Rattle.screen.proofs.is_dense.Goals as goal
 
 pub returns : goal.returns

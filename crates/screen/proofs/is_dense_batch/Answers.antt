@@ -4,7 +4,6 @@ use lib.Ieee.{of_bits}
 use borrow.Author.Tests.{le-leb, lt-leb}
 use Rattle.screen.specs.Screen.{is_dense_batch}
 use Rattle.geometry.proofs.Flags.{and_asked, and_decided}
-use borrow.Author.Rules.{rules}
 use Rattle.screen.proofs.is_dense_batch.Goals as goal
 
 pub returns-then-element_count-ge-DENSE_BATCH_MIN_ELEMENTS : goal.returns-then-element_count-ge-DENSE_BATCH_MIN_ELEMENTS

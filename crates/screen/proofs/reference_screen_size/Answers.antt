@@ -4,7 +4,6 @@ use lib.Ieee.{of_bits}
 use Rattle.floats.specs.Order.{max_num}
 use Rattle.screen.specs.declared.ScreenSize.{ScreenSize}
 use Rattle.screen.specs.Screen.{size, min_fixed_content_px, reference_screen_size}
-use borrow.Author.Rules.{rules}
 use Rattle.screen.proofs.reference_screen_size.Goals as goal
 
 pub returns-then-source_is_degenerate : goal.returns-then-source_is_degenerate

@@ -2,7 +2,6 @@
 use mathlib.Core.Path.{sym, ap, ◌∙◌}
 use Rattle.rounding.specs.Narrow.{narrow}
 use Rattle.screen.specs.Screen.{side, size, screen_size}
-use borrow.Author.Rules.{rules}
 use Rattle.screen.proofs.screen_size.Goals as goal
 
 pub narrow_normal-requires : goal.narrow_normal-requires

@@ -2,7 +2,6 @@
 use mathlib.Core.Path.{ap}
 use lib.Ieee.{Float}
 use Rattle.geometry.specs.Rounded.{◌⊗◌}
-use borrow.Author.Rules.{rules}
 use Rattle.screen.proofs.wide_side.Goals as goal
 
 pub returns : goal.returns

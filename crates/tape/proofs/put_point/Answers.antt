@@ -2,7 +2,6 @@
 -- Assumes nothing.
 use Rattle.fields.proofs.Writing.{record_written, done, ◌⨾◌}
 use Rattle.tape.proofs.Room.{lowest_two}
-use borrow.Author.Rules.{rules}
 use Rattle.tape.proofs.put_point.Goals as goal
 
 pub returns : goal.returns

@@ -1,7 +1,6 @@
 -- `tape::put_proxy` meets its contract: its fields are written one after the other.
 -- Assumes nothing.
 use Rattle.fields.proofs.Writing.{record_written, done, ◌⨾◌}
-use borrow.Author.Rules.{rules}
 use Rattle.tape.proofs.put_proxy.Goals as goal
 
 pub returns : goal.returns

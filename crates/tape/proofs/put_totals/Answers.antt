@@ -2,7 +2,6 @@
 -- Assumes nothing.
 use Rattle.fields.proofs.Writing.{record_written, done, ◌⨾◌}
 use native.Mathlib.Omega.{arith}
-use borrow.Author.Rules.{rules}
 use Rattle.tape.proofs.put_totals.Goals as goal
 
 pub overflow_add-at-8 : goal.overflow_add-at-8

@@ -2,7 +2,6 @@
 -- Assumes nothing.
 use Rattle.plan_rules.specs.Event.{totals, fields_of}
 use Rattle.tape.proofs.Room.{within, written, left_alone}
-use borrow.Author.Rules.{rules}
 use Rattle.tape.proofs.write_totals.Goals as goal
 
 pub returns-then-not-has_room : goal.returns-then-not-has_room

@@ -1,14 +1,11 @@
 -- `walk::find` meets its contract. The loop's invariant: what is left to find from here is the whole look-up.
 -- The measure is what is left of the bytes: a record that does not end the walk has at least 6. Assumes nothing.
-use Prim.Native.Nat.{ℕ, ◌-◌}
+use Prim.Native.Nat.{ℕ}
 use mathlib.Core.Path.{◌≡◌, sym, ap, ◌∙◌}
-use mathlib.Core.Logic.{⊎_elim}
 use mathlib.Core.List.{List, ◌∷◌}
 use native.Mathlib.Omega.{arith}
-use borrow.Author.Rules.{rules}
-use lib.ListN.{length}
-use Rattle.walk.specs.Find.{find, find_in}
-use Rattle.walk.proofs.Finding.{find_from, find_start, find_beyond, find_next, find_other, find_end, find_here, find_on, find_stop, find_past}
+use Rattle.walk.specs.Find.{find_in}
+use Rattle.walk.proofs.Finding.{find_start, find_beyond, find_next, find_other, find_end, find_here, find_on, find_stop, find_past}
 use Rattle.walk.specs.declared.Found.{Found}
 use Rattle.walk.proofs.find.Goals as goal
 use Rattle.walk.proofs.find.Lts as lts

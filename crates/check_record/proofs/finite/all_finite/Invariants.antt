@@ -1,14 +1,7 @@
-use Prim.Native.Nat.{ℕ, ◌+◌, ◌*◌, ◌≤◌}
-use mathlib.Core.Path.{◌≡◌, refl, sym, ◌∙◌}
-use native.Mathlib.Omega.{arith}
-use mathlib.Core.List.{List}
-use mathlib.Core.Bool.{Bool}
+use Prim.Native.Nat.{◌+◌, ◌*◌, ◌≤◌}
+use mathlib.Core.Path.{◌≡◌}
 use lib.ListN.{length}
-use lib.Ieee.{binary64, of_bits}
-use Rattle.floats.specs.Order.{is_finite}
-use Rattle.fields.specs.Field.{uint_at, f64_at}
 use Rattle.check_record.specs.Tests.{every}
-use Rattle.check_record.proofs.Tests.{every_pass, every_fail, every_none}
 use Rattle.check_record.specs.Floats.{finite_at}
 use Rattle.check_record.proofs.finite.all_finite.Given as goal
 

@@ -10,7 +10,6 @@ use Rattle.check_record.specs.Shape.{shape_ok}
 use Rattle.check_record.specs.Floats.{floats_from, floats_count, floats_ok}
 use native.Mathlib.Omega.{arith}
 use Rattle.check_record.proofs.Facts.Lengths.{floats_within}
-use borrow.Author.Rules.{rules}
 use Rattle.check_record.proofs.finite.floats_ok.Goals as goal
 
 room : (s : List ℕ) (at from count : ℕ) → Whole s at → shape_ok s at ≡ true → from ≡ floats_from (kind_at s at) → count ≡ floats_count (kind_at s at) (length_at s at)

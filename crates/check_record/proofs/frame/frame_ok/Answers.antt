@@ -8,7 +8,6 @@ use mathlib.Core.Bool.{Bool, true, false}
 use Rattle.walk.specs.Offsets.{Whole}
 use Rattle.check_record.specs.Frame.{frame_ok}
 use Rattle.check_record.proofs.RightRecords.{frame_whole, whole_frame}
-use borrow.Author.Rules.{rules}
 use Rattle.check_record.proofs.frame.frame_ok.Goals as goal
 
 not_whole : (s : List ℕ) (at : ℕ) → (Whole s at → ⊥) → (b : Bool) → frame_ok s at ≡ b → false ≡ b

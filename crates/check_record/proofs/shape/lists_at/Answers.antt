@@ -4,7 +4,6 @@ use mathlib.Core.Path.{ap}
 use Prim.Native.Nat.{◌+◌}
 use Rattle.records.specs.declared.ListCounts.{ListCounts}
 use Rattle.check_record.specs.Shape.{lists_at}
-use borrow.Author.Rules.{rules}
 use Rattle.check_record.proofs.shape.lists_at.Goals as goal
 
 pub returns : goal.returns

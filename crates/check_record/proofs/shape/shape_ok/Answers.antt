@@ -7,7 +7,6 @@ use Rattle.walk.specs.Offsets.{length_at}
 use Rattle.records.specs.Format.{cell, end_of}
 use Rattle.check_record.proofs.Tests.{tests}
 use Rattle.check_record.specs.Shape.{lists_at, shape_ok}
-use borrow.Author.Rules.{rules}
 use Rattle.check_record.proofs.shape.shape_ok.Goals as goal
 
 pub returns-then-n-lt-CELL_END : goal.returns-then-n-lt-CELL_END

@@ -3,7 +3,6 @@
 use Rattle.check_record.specs.Tests.{both}
 use Rattle.check_record.proofs.Tests.{tests}
 use Rattle.check_record.specs.Values.{cell_ok}
-use borrow.Author.Rules.{rules}
 use Rattle.check_record.proofs.values.cell_ok.Goals as goal
 
 pub returns-then-flags-ge2 : goal.returns-then-flags-ge2

@@ -3,7 +3,6 @@
 use mathlib.Core.Path.{ap, ◌∙◌}
 use Rattle.records.specs.declared.SourceField.{SourceField}
 use Rattle.check_record.specs.Values.{source_ok, grid_ok, reference_ok}
-use borrow.Author.Rules.{rules}
 use Rattle.check_record.proofs.values.reference_ok.Goals as goal
 
 pub returns : goal.returns

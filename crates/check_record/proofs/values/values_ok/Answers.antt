@@ -5,7 +5,6 @@ use native.Mathlib.Omega.{arith}
 use Rattle.check_record.proofs.Tests.{tests}
 use Rattle.check_record.specs.Values.{values_ok}
 use Rattle.check_record.proofs.Facts.Lengths.{shape_sized}
-use borrow.Author.Rules.{rules}
 use Rattle.check_record.proofs.values.values_ok.Goals as goal
 
 pub reference_ok-requires : goal.reference_ok-requires

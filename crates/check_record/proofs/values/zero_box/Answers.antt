@@ -3,7 +3,6 @@
 use Rattle.check_record.specs.Tests.{both}
 use Rattle.check_record.proofs.Tests.{tests}
 use Rattle.check_record.proofs.Facts.Numbers.{zero_box_fields}
-use borrow.Author.Rules.{rules}
 use Rattle.check_record.proofs.values.zero_box.Goals as goal
 
 pub returns-then-u64_within-ne0 : goal.returns-then-u64_within-ne0

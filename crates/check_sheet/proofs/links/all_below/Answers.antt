@@ -1,14 +1,12 @@
 -- `check_sheet::links::all_below` meets its contract. The loop's invariant: what is left to test from here is the whole.
 -- Assumes nothing.
-use Prim.Native.Nat.{ℕ, ◌+◌, ◌*◌, ◌≤◌, ◌<◌}
+use Prim.Native.Nat.{ℕ, ◌≤◌, ◌<◌}
 use mathlib.Core.Path.{◌≡◌, refl, sym, ◌∙◌}
 use native.Mathlib.Omega.{arith}
 use mathlib.Core.List.{List}
 use mathlib.Core.Bool.{true, false}
-use lib.ListN.{length}
 use borrow.Author.Tests.{lt-ltb, le-ltb}
 use Rattle.fields.specs.Field.{uint_at}
-use Rattle.check_record.specs.Tests.{every}
 use Rattle.check_record.proofs.Tests.{every_pass, every_fail, every_none}
 use Rattle.check_sheet.specs.Links.{below_at}
 use Rattle.check_sheet.proofs.links.all_below.Goals as goal

@@ -8,7 +8,6 @@ use Rattle.records.specs.Format.{reference, end_of}
 use Rattle.check_record.proofs.Tests.{tests}
 use Rattle.check_record.proofs.Facts.Lengths.{shape_sized}
 use Rattle.check_sheet.specs.Links.{source_named, link_ok}
-use borrow.Author.Rules.{rules}
 use Rattle.check_sheet.proofs.links.link_ok.Goals as goal
 
 -- a reference's length

@@ -1,11 +1,8 @@
 -- `check_sheet::links::links` meets its contract. The loop's invariant: what is left from here on (`Remaining`).
 -- Assumes nothing.
-use Prim.Native.Nat.{◌+◌, ◌-◌}
+use Prim.Native.Nat.{◌+◌}
 use mathlib.Core.Path.{sym, ◌∙◌}
-use mathlib.Core.Logic.{⊎_elim}
 use native.Mathlib.Omega.{arith}
-use borrow.Author.Rules.{rules}
-use lib.ListN.{length}
 use Rattle.walk.specs.Offsets.{length_at}
 use Rattle.check_record.specs.Record.{Right}
 use Rattle.check_sheet.proofs.Remaining.{Remaining, all_remain, none_remain, remains_right, asked_passed, other_passed, asked_refused}

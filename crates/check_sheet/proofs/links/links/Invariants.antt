@@ -1,12 +1,6 @@
-use Prim.Native.Nat.{◌+◌, ◌-◌}
-use mathlib.Core.Path.{sym, ◌∙◌}
-use mathlib.Core.Logic.{⊎_elim}
-use native.Mathlib.Omega.{arith}
-use borrow.Author.Rules.{rules}
+use Prim.Native.Nat.{◌-◌}
 use lib.ListN.{length}
-use Rattle.walk.specs.Offsets.{length_at}
-use Rattle.check_record.specs.Record.{Right}
-use Rattle.check_sheet.proofs.Remaining.{Remaining, all_remain, none_remain, remains_right, asked_passed, other_passed, asked_refused}
+use Rattle.check_sheet.proofs.Remaining.{Remaining}
 use Rattle.check_sheet.proofs.links.links.Given as goal
 
 abbrev pub invariant-loop-to_ask : goal.invariant-loop-to_ask

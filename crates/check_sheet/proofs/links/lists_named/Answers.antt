@@ -8,7 +8,6 @@ use Rattle.records.specs.declared.ListCounts.{ListCounts}
 use Rattle.check_record.specs.Tests.{both}
 use Rattle.check_record.specs.Shape.{lists_at}
 use Rattle.check_sheet.specs.Links.{named_in, lists_named}
-use borrow.Author.Rules.{rules}
 use Rattle.check_sheet.proofs.links.lists_named.Goals as goal
 use Rattle.check_sheet.proofs.links.lists_named.Lts as lts
 use Rattle.check_sheet.proofs.links.lists_named.Reads as reads

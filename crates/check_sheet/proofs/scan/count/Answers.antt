@@ -1,7 +1,6 @@
 -- `check_sheet::scan::count` meets its contract, count by count.
 -- Assumes nothing.
 use Rattle.check_sheet.specs.Count.{counted}
-use borrow.Author.Rules.{rules}
 use Rattle.check_sheet.proofs.scan.count.Goals as goal
 
 pub returns : goal.returns

@@ -1,12 +1,9 @@
 -- `check_sheet::scan::scan` meets its contract. The loop's invariant: the counts are those of the records passed,
 -- and the first no from here on is the first no of all. Assumes nothing.
-use Prim.Native.Nat.{ℕ, ◌-◌}
-use mathlib.Core.Path.{◌≡◌, sym, ap, ◌∙◌}
+use Prim.Native.Nat.{ℕ}
+use mathlib.Core.Path.{sym, ap, ◌∙◌}
 use native.Mathlib.Omega.{arith}
-use borrow.Author.Rules.{rules}
 use mathlib.Core.List.{List}
-use lib.ListN.{length}
-use Rattle.walk.specs.Offsets.{offsets_from, offsets}
 use Rattle.walk.proofs.Offsets.{offsets_within, offsets_some, offsets_more, offsets_end}
 use Rattle.check_record.specs.Record.{Right}
 use Rattle.check_record.proofs.RightRecords.{no_zero_right}
@@ -14,7 +11,7 @@ use Rattle.check_sheet.specs.declared.Checked.TheVariants.{Sound, Refused}
 use Rattle.check_sheet.specs.Count.{counts_of}
 use Rattle.check_sheet.specs.Check.{first_no}
 use Rattle.check_sheet.proofs.Passes.{first_no_pass, first_no_stop}
-use Rattle.check_sheet.proofs.Passed.{Passed, passed_start, passed_step, passed_end}
+use Rattle.check_sheet.proofs.Passed.{passed_start, passed_step, passed_end}
 use Rattle.check_sheet.proofs.scan.scan.Goals as goal
 use Rattle.check_sheet.proofs.scan.scan.Lts as lts
 use Rattle.check_sheet.proofs.scan.scan.Reads as reads

@@ -3,7 +3,6 @@
 use native.Mathlib.Omega.{arith}
 use borrow.Author.Tests.{eq-eqb, ne_eqb}
 use Rattle.check_sheet.specs.Count.{tallied}
-use borrow.Author.Rules.{rules}
 use Rattle.check_sheet.proofs.scan.tally.Goals as goal
 
 pub returns-then-kind-k : goal.returns-then-kind-k

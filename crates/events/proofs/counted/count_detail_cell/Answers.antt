@@ -3,7 +3,6 @@
 use Rattle.plan_rules.specs.Event.{after, ◌⊞◌}
 use Rattle.plan_rules.specs.Push.{say}
 use Rattle.plan_rules.specs.Tape.{put_record, on_tape}
-use borrow.Author.Rules.{rules}
 use Rattle.events.proofs.counted.count_detail_cell.Goals as goal
 
 pub returns : goal.returns

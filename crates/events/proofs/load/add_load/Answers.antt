@@ -2,7 +2,6 @@
 -- Assumes nothing.
 use mathlib.Core.Path.{sym, ◌∙◌}
 use Rattle.plan_rules.proofs.Paths.Pushes.{load_listed, load_dropped}
-use borrow.Author.Rules.{rules}
 use Rattle.events.proofs.load.add_load.Goals as goal
 
 pub returns-then-plan-lt-MAX_LOAD_PROXIES : goal.returns-then-plan-lt-MAX_LOAD_PROXIES

@@ -5,7 +5,6 @@ use Rattle.geometry.specs.declared.bbox.WorldBBox.{WorldBBox}
 use Rattle.geometry.specs.declared.bbox.Bounds.{Bounds}
 use Rattle.plan_rules.specs.World.{world}
 use Rattle.plan_rules.specs.OnTape.{add_load, add_load_if_boxed}
-use borrow.Author.Rules.{rules}
 use Rattle.events.proofs.load.add_load_if_boxed.Goals as goal
 
 pub returns-in_default : goal.returns-in_default

@@ -8,7 +8,6 @@ use lib.Dec.{T, lt→ltb}
 use lib.Ieee.{binary64, nan_bits, of_bits}
 use lib.Ieee.Bits.{is_true, nan_bits_is, nan_bits_above}
 use Rattle.floats.proofs.Nans.{nan_of_test, zero_by_zero}
-use borrow.Author.Rules.{rules}
 use Rattle.floats.proofs.pattern.f64_from_bits.Goals as goal
 
 number : (n : ℕ) → n % 2 ^ 63 ≤ 0x7ff0_0000_0000_0000 → T (not (nan_bits binary64 n))

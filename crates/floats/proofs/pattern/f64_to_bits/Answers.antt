@@ -1,7 +1,6 @@
 -- `floats::pattern::f64_to_bits` meets its contract. Assumes nothing.
 use mathlib.Core.Path.{◌≡◌, refl, sym, ap, ◌∙◌}
 use lib.Ieee.{nan, binary64, to_bits}
-use borrow.Author.Rules.{rules}
 use Rattle.floats.proofs.Nans.{nan_of_differs, number_of_equal}
 use Rattle.floats.proofs.pattern.f64_to_bits.Goals as goal
 

@@ -1,5 +1,4 @@
 -- `fused::multiply_add::addend_term` meets its contract. Assumes nothing.
-use borrow.Author.Rules.{rules}
 use Rattle.fused.proofs.multiply_add.Terms.{operand_zero, addend_none, addend_is, addend_operand}
 use Rattle.fused.proofs.multiply_add.addend_term.Goals as goal
 

@@ -4,7 +4,6 @@ use mathlib.Core.Bool.{Bool, true, false, not}
 use Prim.Native.Nat.{ℕ, ◌≤◌, ◌<◌}
 use native.Mathlib.Nat.{le_of_lt}
 use lib.Dec.{T, ltb→lt, nltb→le}
-use borrow.Author.Rules.{rules}
 use Rattle.fused.specs.TwoWords.{words, wide}
 use Rattle.fused.proofs.multiply_add.Rounding.{shifted_lt, sum_of_alike, difference_reversed, difference_cancels, difference_leads, upper_lt}
 use Rattle.fused.proofs.wide.Shifts.{words_some, words_none}

@@ -2,7 +2,6 @@
 use mathlib.Core.Path.{sym, subst}
 use Prim.Native.Nat.{ℕ, ◌-◌, ◌≤◌}
 use native.Mathlib.Nat.{le_of_lt, sub-le}
-use borrow.Author.Rules.{rules}
 use Rattle.fused.specs.TwoWords.{words, Operand}
 use Rattle.rounding.proofs.decode.Signs.{unlike_bits, sign_bit_is}
 use Rattle.fused.proofs.Naturals.{sub_sub_cancel}

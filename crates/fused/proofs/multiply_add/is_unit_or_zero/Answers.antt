@@ -2,7 +2,6 @@
 use Rattle.fused.specs.Units.{unit_or_zero}
 use Rattle.floats.proofs.Nans.{nan_of_differs, number_of_equal}
 use Rattle.fused.proofs.multiply_add.UnitPattern.{pattern_test, product_fits, nan_is_none}
-use borrow.Author.Rules.{rules}
 use Rattle.fused.proofs.multiply_add.is_unit_or_zero.Goals as goal
 
 pub returns-then-v : goal.returns-then-v

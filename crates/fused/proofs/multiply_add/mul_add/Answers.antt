@@ -6,7 +6,6 @@ use lib.Ieee.{Float, binary64, fits}
 use Rattle.fused.specs.Units.{unit_or_zero}
 use Rattle.fused.proofs.multiply_add.ExactProduct.{Unit, first_unit, second_unit}
 use Rattle.fused.proofs.multiply_add.UnitPattern.{unit_of_test}
-use borrow.Author.Rules.{rules}
 use Rattle.fused.proofs.multiply_add.mul_add.Goals as goal
 use Rattle.fused.proofs.multiply_add.mul_add.Lts as lts
 use Rattle.fused.proofs.multiply_add.mul_add.Reads as reads

@@ -4,7 +4,6 @@ use mathlib.Core.Bool.{not}
 use lib.Dec.{T}
 use lib.Ieee.{Float, binary64, fits, is_nan}
 use lib.Ieee.Bits.{of_bits-to_bits}
-use borrow.Author.Rules.{rules}
 use Rattle.fused.specs.Fma.{fma}
 use Rattle.floats.proofs.Nans.{nan_of_differs, number_of_equal, zero_by_zero}
 use Rattle.fused.proofs.multiply_add.Exceptional.{fma_nan_first, fma_nan_second, fma_nan_third, fma_infinite_first, fma_infinite_second, fma_infinite_third}

@@ -1,5 +1,4 @@
 -- `fused::multiply_add::product_term` meets its contract. Assumes nothing.
-use borrow.Author.Rules.{rules}
 use Rattle.fused.proofs.wide.Shifts.{words_none, words_some}
 use Rattle.fused.proofs.multiply_add.Terms.{operand_zero, product_value, product_none, product_operand}
 use Rattle.fused.proofs.multiply_add.product_term.Goals as goal

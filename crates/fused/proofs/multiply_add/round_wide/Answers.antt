@@ -1,5 +1,4 @@
 -- `fused::multiply_add::round_wide` meets its contract. Assumes nothing.
-use borrow.Author.Rules.{rules}
 use Rattle.fused.specs.TwoWords.{words}
 use Rattle.fused.proofs.multiply_add.Rounding.{round_wide_zero, round_wide_some}
 use Rattle.fused.proofs.wide.Shifts.{words_some}

@@ -1,5 +1,4 @@
 -- `fused::wide::leading_word` meets its contract. Assumes nothing.
-use borrow.Author.Rules.{rules}
 use Rattle.fused.proofs.wide.LeadingBits.{leading_in_low, leading_in_high, low_pos, high_pos}
 use Rattle.fused.proofs.wide.leading_word.Goals as goal
 

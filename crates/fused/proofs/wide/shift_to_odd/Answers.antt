@@ -1,5 +1,4 @@
 -- `fused::wide::shift_to_odd` meets its contract. Assumes nothing.
-use borrow.Author.Rules.{rules}
 use Rattle.fused.specs.TwoWords.{wide}
 use Rattle.fused.proofs.wide.Shifts.{shift_word_to_odd, shift_all_to_odd}
 use Rattle.fused.proofs.wide.shift_to_odd.Goals as goal

@@ -4,7 +4,6 @@ use mathlib.Core.Logic.{inl}
 use Prim.Native.Nat.{ℕ, ◌*◌, ◌^◌, ◌<◌}
 use native.Mathlib.Nat.{mul-one}
 use native.Mathlib.Omega.{arith}
-use borrow.Author.Rules.{rules}
 use Rattle.fused.specs.TwoWords.{words}
 use Rattle.fused.proofs.wide.Shifts.{shift_within_word_to_odd}
 use Rattle.fused.proofs.wide.shift_within_word.Goals as goal

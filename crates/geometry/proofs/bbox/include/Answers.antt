@@ -1,6 +1,5 @@
 -- `geometry::bbox::include` meets its contract. Assumes nothing.
 use Rattle.geometry.specs.Bbox.{bbox, include}
-use borrow.Author.Rules.{rules}
 use Rattle.geometry.proofs.bbox.include.Goals as goal
 
 pub returns : goal.returns

@@ -2,7 +2,6 @@
 use mathlib.Core.Path.{ap₂, ◌∙◌}
 use lib.Ieee.{of_bits, div, neg}
 use Rattle.geometry.specs.Bbox.{include, transform_bbox}
-use borrow.Author.Rules.{rules}
 use Rattle.geometry.proofs.bbox.transform_bbox.Goals as goal
 
 pub returns : goal.returns

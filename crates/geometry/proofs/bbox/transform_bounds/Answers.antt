@@ -1,7 +1,6 @@
 -- `geometry::bbox::transform_bounds` meets its contract. Assumes nothing.
 use mathlib.Core.Path.{sym, ap, ◌∙◌}
 use Rattle.geometry.specs.Bbox.{boxed, transform_bbox, transform_bounds}
-use borrow.Author.Rules.{rules}
 use Rattle.geometry.proofs.bbox.transform_bounds.Goals as goal
 
 pub returns : goal.returns

@@ -1,10 +1,8 @@
 -- `pushes::hidden::is_hidden` meets its contract: what is left to look through decides the whole.
 -- Assumes nothing.
-use mathlib.Core.Path.{◌≡◌, refl, sym, ◌∙◌}
-use Prim.Native.Nat.{◌+◌, ◌*◌, ◌-◌, ◌≤◌}
-use lib.ListN.{length, drop}
+use mathlib.Core.Path.{refl, sym, ◌∙◌}
 use native.Mathlib.Omega.{arith}
-use Rattle.plan_rules.specs.World.{contains, hides}
+use Rattle.plan_rules.specs.World.{hides}
 use Rattle.pushes.proofs.HiddenLayers.{contains_here, contains_later, contains_no_more}
 use borrow.Author.Rules.{rules}
 use Rattle.pushes.proofs.hidden.is_hidden.Goals as goal

@@ -1,10 +1,7 @@
-use mathlib.Core.Path.{◌≡◌, refl, sym, ◌∙◌}
+use mathlib.Core.Path.{◌≡◌}
 use Prim.Native.Nat.{◌+◌, ◌*◌, ◌-◌, ◌≤◌}
 use lib.ListN.{length, drop}
-use native.Mathlib.Omega.{arith}
-use Rattle.plan_rules.specs.World.{contains, hides}
-use Rattle.pushes.proofs.HiddenLayers.{contains_here, contains_later, contains_no_more}
-use borrow.Author.Rules.{rules}
+use Rattle.plan_rules.specs.World.{contains}
 use Rattle.pushes.proofs.hidden.is_hidden.Given as goal
 
 abbrev pub invariant-loop-i : goal.invariant-loop-i

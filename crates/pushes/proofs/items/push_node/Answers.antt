@@ -7,7 +7,6 @@ use Rattle.look_up.proofs.Looking.{item_looked}
 use Rattle.plan_rules.specs.World.{hides}
 use Rattle.plan_rules.specs.OnTape.{given, query}
 use Rattle.plan_rules.proofs.Paths.Pushes.{node_missing, node_hidden, node_shown}
-use borrow.Author.Rules.{rules}
 use Rattle.pushes.proofs.items.push_node.Goals as goal
 
 pub returns-in_default : goal.returns-in_default

@@ -1,17 +1,10 @@
-use mathlib.Core.Path.{◌≡◌, refl, sym, ap, ◌∙◌}
+use mathlib.Core.Path.{◌≡◌}
 use mathlib.Core.List.{List}
 use Prim.Native.Nat.{ℕ, ◌-◌, ◌≤◌}
-use native.Mathlib.Omega.{arith}
 use lib.ListN.{length}
-use borrow.Author.Tests.{not-true, not-false}
-use mathlib.Core.Bool.{Bool}
-use Rattle.records.specs.declared.PreparedNode.{PreparedNode}
 use Rattle.abstract_sheet.specs.Sheet.{node_record_at}
-use Rattle.plan_rules.specs.World.{world, flow, each}
+use Rattle.plan_rules.specs.World.{world, each}
 use Rattle.plan_rules.specs.OnTape.{Given, push_point, push_points}
-use Rattle.plan_rules.proofs.Paths.Loops.{each_go, each_halt, each_done}
-use Rattle.plan_rules.proofs.Paths.Loops.{each_from}
-use borrow.Author.Rules.{rules}
 use Rattle.pushes.proofs.items.push_points.Given as goal
 
 abbrev pub invariant-loop-i : goal.invariant-loop-i

@@ -1,7 +1,6 @@
 -- `records::cells::cell_at` meets its contract. Assumes nothing.
 use mathlib.Core.Path.{◌∙◌}
 use Rattle.records.proofs.EachKind.{cell_in}
-use borrow.Author.Rules.{rules}
 use Rattle.records.proofs.cells.cell_at.Goals as goal
 
 pub returns : goal.returns

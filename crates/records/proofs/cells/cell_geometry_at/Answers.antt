@@ -1,6 +1,5 @@
 -- `records::cells::cell_geometry_at` meets its contract. Assumes nothing.
 use Rattle.records.specs.Records.{cell_geometry_at}
-use borrow.Author.Rules.{rules}
 use Rattle.records.proofs.cells.cell_geometry_at.Goals as goal
 
 pub returns : goal.returns

@@ -2,7 +2,6 @@
 use mathlib.Core.Path.{◌∙◌}
 use Rattle.records.specs.Records.{cell_number_at}
 use Rattle.records.proofs.Body.{uint_in}
-use borrow.Author.Rules.{rules}
 use Rattle.records.proofs.cells.cell_number_at.Goals as goal
 
 pub returns : goal.returns

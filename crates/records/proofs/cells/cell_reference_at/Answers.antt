@@ -2,7 +2,6 @@
 use Prim.Native.Nat.{ℕ, ◌+◌}
 use mathlib.Core.Path.{ap, ◌∙◌}
 use Rattle.records.specs.Records.{cell_number_at, cell_reference_at}
-use borrow.Author.Rules.{rules}
 use Rattle.records.proofs.cells.cell_reference_at.Goals as goal
 
 pub returns : goal.returns

@@ -3,7 +3,6 @@ use Prim.Native.Nat.{ℕ, ◌+◌}
 use mathlib.Core.Path.{ap, ◌∙◌}
 use mathlib.Core.Bool.{Bool}
 use Rattle.records.specs.Records.{bit, bounds_at, cell_at}
-use borrow.Author.Rules.{rules}
 use Rattle.records.proofs.cells.cell_within.Goals as goal
 
 pub returns : goal.returns

@@ -1,5 +1,4 @@
 -- `records::cells::list_counts_within` meets its contract: the four counts read. Assumes nothing.
-use borrow.Author.Rules.{rules}
 use Rattle.records.proofs.cells.list_counts_within.Goals as goal
 
 pub returns : goal.returns

@@ -4,7 +4,6 @@ use mathlib.Core.Path.{ap₂, ◌∙◌}
 use native.Mathlib.Omega.{arith}
 use Rattle.records.specs.Records.{references_from}
 use Rattle.records.proofs.Body.{uint_in}
-use borrow.Author.Rules.{rules}
 use Rattle.records.proofs.cells.references_from.Goals as goal
 
 pub returns : goal.returns

@@ -3,7 +3,6 @@ use mathlib.Core.Path.{◌∙◌}
 use native.Mathlib.Omega.{arith}
 use Rattle.records.specs.Records.{texts_from}
 use Rattle.records.proofs.Body.{uint_in}
-use borrow.Author.Rules.{rules}
 use Rattle.records.proofs.cells.texts_from.Goals as goal
 
 pub returns : goal.returns

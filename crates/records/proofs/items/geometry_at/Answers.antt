@@ -1,7 +1,6 @@
 -- `records::items::geometry_at` meets its contract. Assumes nothing.
 use mathlib.Core.Path.{◌∙◌}
 use Rattle.records.proofs.EachKind.{geometry_in}
-use borrow.Author.Rules.{rules}
 use Rattle.records.proofs.items.geometry_at.Goals as goal
 
 pub returns : goal.returns

@@ -1,6 +1,5 @@
 -- `records::items::geometry_within` meets its contract. Assumes nothing.
 use Rattle.records.specs.Records.{geometry_at}
-use borrow.Author.Rules.{rules}
 use Rattle.records.proofs.items.geometry_within.Goals as goal
 
 pub returns : goal.returns

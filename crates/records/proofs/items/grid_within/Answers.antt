@@ -2,7 +2,6 @@
 use Prim.Native.Nat.{ℕ}
 use mathlib.Core.Path.{ap, ◌∙◌}
 use Rattle.records.specs.Records.{bit, grid_at}
-use borrow.Author.Rules.{rules}
 use Rattle.records.proofs.items.grid_within.Goals as goal
 
 pub returns : goal.returns

@@ -1,7 +1,6 @@
 -- `records::items::node_at` meets its contract. Assumes nothing.
 use mathlib.Core.Path.{◌∙◌}
 use Rattle.records.proofs.EachKind.{node_in}
-use borrow.Author.Rules.{rules}
 use Rattle.records.proofs.items.node_at.Goals as goal
 
 pub returns : goal.returns

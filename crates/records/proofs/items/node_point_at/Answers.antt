@@ -5,7 +5,6 @@ use lib.ListN.{length, length-drop}
 use Rattle.records.specs.Records.{node_point_at}
 use Rattle.records.proofs.Body.{uint_in}
 use Rattle.records.proofs.EachKind.{dvec2_in, point_in}
-use borrow.Author.Rules.{rules}
 use Rattle.records.proofs.items.node_point_at.Goals as goal
 
 pub returns-then-place-length_from : goal.returns-then-place-length_from

@@ -1,7 +1,6 @@
 -- `records::items::node_within` meets its contract. Assumes nothing.
 use mathlib.Core.Path.{ap, ◌∙◌}
 use Rattle.records.specs.Records.{points_of, node_at}
-use borrow.Author.Rules.{rules}
 use Rattle.records.proofs.items.node_within.Goals as goal
 
 pub returns : goal.returns

@@ -1,7 +1,6 @@
 -- `records::items::points_of` meets its contract. Assumes nothing.
 use mathlib.Core.Path.{refl}
 use native.Mathlib.Omega.{arith}
-use borrow.Author.Rules.{rules}
 use Rattle.records.proofs.items.points_of.Goals as goal
 
 pub returns-then-length : goal.returns-then-length

@@ -2,7 +2,6 @@
 use mathlib.Core.Path.{ap, ◌∙◌}
 use Rattle.records.specs.Records.{source_of, reference_at}
 use Rattle.records.specs.declared.SourceField.{SourceField}
-use borrow.Author.Rules.{rules}
 use Rattle.records.proofs.items.prepared_source_within.Goals as goal
 
 pub returns : goal.returns

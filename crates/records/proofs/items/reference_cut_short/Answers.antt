@@ -2,7 +2,6 @@
 use mathlib.Core.Path.{◌∙◌}
 use Rattle.records.specs.Records.{reference_at}
 use Rattle.records.proofs.EachKind.{reference_in}
-use borrow.Author.Rules.{rules}
 use Rattle.records.proofs.items.reference_cut_short.Goals as goal
 
 pub returns : goal.returns

@@ -1,6 +1,5 @@
 -- `records::items::reference_within` meets its contract. Assumes nothing.
 use Rattle.records.specs.Records.{reference_at}
-use borrow.Author.Rules.{rules}
 use Rattle.records.proofs.items.reference_within.Goals as goal
 
 pub returns : goal.returns

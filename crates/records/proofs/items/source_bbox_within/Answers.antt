@@ -3,7 +3,6 @@ use Prim.Native.Nat.{ℕ, ◌+◌}
 use mathlib.Core.Path.{ap, ◌∙◌}
 use mathlib.Core.Bool.{Bool}
 use Rattle.records.specs.Records.{bit, bounds_at, reference_at}
-use borrow.Author.Rules.{rules}
 use Rattle.records.proofs.items.source_bbox_within.Goals as goal
 
 pub returns : goal.returns

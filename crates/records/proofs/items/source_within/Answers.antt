@@ -1,5 +1,4 @@
 -- `records::items::source_within` meets its contract: the kind and the number read. Assumes nothing.
-use borrow.Author.Rules.{rules}
 use Rattle.records.proofs.items.source_within.Goals as goal
 
 pub returns : goal.returns

@@ -1,7 +1,6 @@
 -- `records::items::text_at` meets its contract. Assumes nothing.
 use mathlib.Core.Path.{◌∙◌}
 use Rattle.records.proofs.EachKind.{text_in}
-use borrow.Author.Rules.{rules}
 use Rattle.records.proofs.items.text_at.Goals as goal
 
 pub returns : goal.returns

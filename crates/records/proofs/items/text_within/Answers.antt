@@ -1,6 +1,5 @@
 -- `records::items::text_within` meets its contract. Assumes nothing.
 use Rattle.records.specs.Records.{text_at}
-use borrow.Author.Rules.{rules}
 use Rattle.records.proofs.items.text_within.Goals as goal
 
 pub returns : goal.returns

@@ -1,7 +1,6 @@
 -- `records::parts::bit` meets its contract. Assumes nothing.
 use mathlib.Core.Path.{refl}
 use Rattle.records.specs.Records.{bit}
-use borrow.Author.Rules.{rules}
 use Rattle.records.proofs.parts.bit.Goals as goal
 
 pub returns : goal.returns

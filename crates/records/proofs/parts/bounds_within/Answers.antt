@@ -1,6 +1,5 @@
 -- `records::parts::bounds_within` meets its contract. Assumes nothing.
 use Rattle.records.specs.Records.{bounds_at, world_bbox_at}
-use borrow.Author.Rules.{rules}
 use Rattle.records.proofs.parts.bounds_within.Goals as goal
 
 pub returns-then-present : goal.returns-then-present

@@ -1,6 +1,5 @@
 -- `records::parts::dvec2_within` meets its contract. Assumes nothing.
 use Rattle.records.specs.Records.{dvec2_at}
-use borrow.Author.Rules.{rules}
 use Rattle.records.proofs.parts.dvec2_within.Goals as goal
 
 pub returns : goal.returns

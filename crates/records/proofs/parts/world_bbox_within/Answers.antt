@@ -9,7 +9,6 @@ use Rattle.floats.specs.Order.{is_finite}
 use Rattle.floats.proofs.Nans.{finite_pattern}
 use Rattle.fields.specs.Field.{uint_at, f64_at}
 use Rattle.records.specs.Records.{world_bbox_at}
-use borrow.Author.Rules.{rules}
 use Rattle.records.proofs.parts.world_bbox_within.Goals as goal
 
 abbrev Number : ℕ → Type 0

@@ -1,15 +1,12 @@
 -- `rounding::convert::f64_to_f32` meets its contract. Assumes nothing.
-use Rattle.std.proofs.Common.{T, sym, ap, ◌∙◌, subst, rules}
-use lib.Ieee.{binary32, binary64, fits}
+use Rattle.std.proofs.Common.{T, sym, ap, ◌∙◌, subst}
+use lib.Ieee.{binary32, binary64}
 use lib.Ieee.Bits.{of_bits-to_bits}
 use Rattle.rounding.specs.Narrow.{narrow}
 use Rattle.floats.proofs.Nans.{nan_of_differs, number_of_equal, zero_by_zero}
 use Rattle.rounding.proofs.decode.Reading.{number_bits}
 use Rattle.rounding.proofs.convert.Narrowing.{narrow_nan}
 use Rattle.rounding.proofs.convert.f64_to_f32.Goals as goal
-use Rattle.rounding.proofs.convert.f64_to_f32.Lts as lts
-use Rattle.rounding.proofs.convert.f64_to_f32.Reads as reads
-use Rattle.rounding.proofs.convert.f64_to_f32.Tie as tie
 
 pub returns-then-x : goal.returns-then-x
 returns-then-x c =

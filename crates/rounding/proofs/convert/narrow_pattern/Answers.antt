@@ -1,5 +1,5 @@
 -- `rounding::convert::narrow_pattern` meets its contract. Assumes nothing.
-use Rattle.std.proofs.Common.{◌≡◌, sym, ◌∙◌, arith, rules}
+use Rattle.std.proofs.Common.{◌≡◌, sym, ◌∙◌, arith}
 use Rattle.rounding.specs.Fields.{exponent_field_of}
 use Rattle.rounding.proofs.decode.Reading.{exponent_lt}
 use Rattle.rounding.proofs.convert.Narrowing.{narrow_infinite, narrow_zero, narrow_encodes}

@@ -1,6 +1,6 @@
 -- `rounding::convert::u64_to_f32` meets its contract. Assumes nothing.
 use lib.Ieee.{binary32, of_int}
-use Rattle.std.proofs.Common.{pos, rules}
+use Rattle.std.proofs.Common.{pos}
 use Rattle.rounding.specs.Packed.{Encodes}
 use Rattle.rounding.proofs.convert.Counting.{count_encodes}
 use Rattle.rounding.proofs.convert.u64_to_f32.Goals as goal

@@ -1,5 +1,5 @@
 -- `rounding::decode::exponent_of` meets its contract. Assumes nothing.
-use Rattle.std.proofs.Common.{ℕ, ◌-◌, sym, ap, ◌∙◌, rules}
+use Rattle.std.proofs.Common.{ℕ, ◌-◌, sym, ap, ◌∙◌}
 use Rattle.rounding.specs.Fields.{exponent_of}
 use Rattle.rounding.proofs.decode.exponent_of.Goals as goal
 

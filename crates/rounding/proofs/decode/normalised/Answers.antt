@@ -1,5 +1,5 @@
 -- `rounding::decode::normalised` meets its contract. Assumes nothing.
-use Rattle.std.proofs.Common.{ℕ, ◌+◌, ◌^◌, ◌<◌, ◌≤◌, sym, ◌∙◌, subst, arith, rules}
+use Rattle.std.proofs.Common.{ℕ, ◌+◌, ◌^◌, ◌<◌, ◌≤◌, sym, ◌∙◌, subst, arith}
 use Rattle.rounding.proofs.decode.Reading.{significand_lt, exponent_lt}
 use Rattle.rounding.proofs.decode.Scaling.{normalised_zero, normalised_some, eleven_leading_zeros}
 use Rattle.rounding.proofs.decode.normalised.Goals as goal

@@ -1,5 +1,5 @@
 -- `rounding::decode::significand_of` meets its contract. Assumes nothing.
-use Rattle.std.proofs.Common.{sym, ◌∙◌, rules}
+use Rattle.std.proofs.Common.{sym, ◌∙◌}
 use Rattle.rounding.proofs.decode.Reading.{significand_zero, significand_more}
 use Rattle.rounding.proofs.decode.significand_of.Goals as goal
 

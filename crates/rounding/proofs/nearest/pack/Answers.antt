@@ -1,5 +1,4 @@
 -- `rounding::nearest::pack` meets its contract. Assumes nothing.
-use Rattle.std.proofs.Common.{rules}
 use Rattle.rounding.proofs.nearest.Packing.{small_packed, small_overflows, past_infinity, magnitude_fits, normal_packed, normal_overflows}
 use Rattle.rounding.proofs.nearest.pack.Goals as goal
 

@@ -1,12 +1,11 @@
 -- `scratch::clearing::clear_bytes` meets its contract: what lies below i is zero, what lies above is as it was.
 -- Assumes nothing.
-use mathlib.Core.Path.{◌≡◌, refl, ap, ◌∙◌}
-use mathlib.Core.List.{List, ◌++◌}
-use Prim.Native.Nat.{ℕ, ◌-◌, ◌≤◌}
+use mathlib.Core.Path.{refl, ap, ◌∙◌}
+use mathlib.Core.List.{List}
+use Prim.Native.Nat.{ℕ}
 use native.Mathlib.Omega.{arith}
-use lib.ListN.{length, length-set, replicate, drop, set}
+use lib.ListN.{length-set, set}
 use borrow.Author.Fill.{fill_none, fill_more}
-use borrow.Author.Rules.{rules}
 use Rattle.fields.proofs.Zeroed.{all_zero}
 use Rattle.scratch.proofs.clearing.clear_bytes.Goals as goal
 

@@ -1,5 +1,4 @@
 -- `scratch::memory::cache_get` meets its contract. Assumes nothing.
-use borrow.Author.Rules.{rules}
 use Rattle.scratch.proofs.memory.cache_get.Goals as goal
 
 pub returns : goal.returns

@@ -1,5 +1,4 @@
 -- `scratch::memory::cache_insert` meets its contract. Assumes nothing.
-use borrow.Author.Rules.{rules}
 use Rattle.scratch.proofs.memory.cache_insert.Goals as goal
 
 pub returns : goal.returns

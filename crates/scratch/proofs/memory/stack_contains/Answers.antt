@@ -1,5 +1,4 @@
 -- `scratch::memory::stack_contains` meets its contract. Assumes nothing.
-use borrow.Author.Rules.{rules}
 use Rattle.scratch.proofs.memory.stack_contains.Goals as goal
 
 pub returns : goal.returns

@@ -3,7 +3,6 @@ use mathlib.Core.Path.{◌≡◌, ap, ◌∙◌}
 use Prim.Native.Nat.{ℕ, ◌-◌}
 use native.Mathlib.Omega.{arith}
 use Rattle.plan_rules.specs.Scratch.{place}
-use borrow.Author.Rules.{rules}
 use Rattle.scratch.proofs.places.count_place.Goals as goal
 
 pub returns-then-depth-eq0 : goal.returns-then-depth-eq0

@@ -1,5 +1,4 @@
 -- `scratch::places::is_marked` meets its contract. Assumes nothing.
-use borrow.Author.Rules.{rules}
 use Rattle.scratch.proofs.places.is_marked.Goals as goal
 
 pub returns : goal.returns

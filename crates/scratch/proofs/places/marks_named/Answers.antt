@@ -3,7 +3,6 @@ use mathlib.Core.Path.{refl}
 use native.Mathlib.Omega.{arith}
 use Rattle.plan_rules.specs.Scratch.{marks_named}
 use Rattle.scratch.proofs.Layers.{size_fits}
-use borrow.Author.Rules.{rules}
 use Rattle.scratch.proofs.places.marks_named.Goals as goal
 
 pub overflow_mul-result : goal.overflow_mul-result

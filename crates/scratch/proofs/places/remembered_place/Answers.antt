@@ -1,5 +1,4 @@
 -- `scratch::places::remembered_place` meets its contract. Assumes nothing.
-use borrow.Author.Rules.{rules}
 use Rattle.scratch.proofs.places.remembered_place.Goals as goal
 
 pub returns : goal.returns

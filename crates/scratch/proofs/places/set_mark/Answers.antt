@@ -1,7 +1,6 @@
 -- `scratch::places::set_mark` meets its contract. Assumes nothing.
 use mathlib.Core.Path.{sym}
 use lib.Seq.{set_out}
-use borrow.Author.Rules.{rules}
 use Rattle.scratch.proofs.places.set_mark.Goals as goal
 
 pub returns-else-place-marks : goal.returns-else-place-marks

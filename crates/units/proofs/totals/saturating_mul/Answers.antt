@@ -1,7 +1,6 @@
 -- `units::totals::saturating_mul` meets its contract. Assumes nothing.
 use native.Mathlib.Omega.{arith}
 use Rattle.units.proofs.Products.{product_none, product_fits, product_below, product_stops}
-use borrow.Author.Rules.{rules}
 use Rattle.units.proofs.totals.saturating_mul.Goals as goal
 
 pub returns-then-b-eq0 : goal.returns-then-b-eq0

@@ -1,6 +1,5 @@
 -- `units::totals::source_units` meets its contract. Assumes nothing.
 use Rattle.units.proofs.Quotients.{share_of_none, share_below_one, share}
-use borrow.Author.Rules.{rules}
 use Rattle.units.proofs.totals.source_units.Goals as goal
 
 pub returns-then-count-eq0 : goal.returns-then-count-eq0

@@ -1,6 +1,5 @@
 -- `geometry::bbox::WorldBBox::merge` meets its contract. Assumes nothing.
 use Rattle.geometry.specs.Bbox.{bbox, merge}
-use borrow.Author.Rules.{rules}
 use Rattle.geometry.proofs.bbox.WorldBBox.merge.Goals as goal
 
 pub returns : goal.returns

@@ -1,6 +1,5 @@
 -- `geometry::placement::Placement::mul` meets its contract. Assumes nothing.
 use Rattle.geometry.specs.Placement.{from_cols, ◌·◌}
-use borrow.Author.Rules.{rules}
 use Rattle.geometry.proofs.placement.Placement.mul.Goals as goal
 
 pub returns : goal.returns

@@ -3,7 +3,6 @@ use mathlib.Core.Path.{ap}
 use Rattle.geometry.specs.declared.placement.DVec2.{DVec2}
 use Rattle.geometry.specs.Rounded.{◌⊕◌}
 use Rattle.geometry.specs.Placement.{vec, transform_point2}
-use borrow.Author.Rules.{rules}
 use Rattle.geometry.proofs.placement.Placement.transform_point2.Goals as goal
 
 pub returns : goal.returns
