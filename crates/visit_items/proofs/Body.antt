@@ -1,10 +1,9 @@
 -- The loops of `visit_cell` before that over its references, by code path: where one of them halts, the visit is over.
 -- Assumes nothing.
 use mathlib.Core.Path.{◌≡◌, sym, ap, ◌∙◌}
-use mathlib.Core.Bool.{Bool, true, false, not}
+use mathlib.Core.Bool.{Bool, true, false}
 use mathlib.Core.List.{List}
 use Prim.Native.Nat.{ℕ}
-use borrow.Author.Tests.{not-true, not-false}
 use Rattle.abstract_sheet.specs.Sheet.{CellRecord}
 use Rattle.plan_rules.specs.declared.Fixed.{Fixed}
 use Rattle.plan_rules.specs.World.{Flow, go, halt, flow, each}

@@ -1,11 +1,10 @@
 -- `plan_query::copy_hidden` meets its contract. The loop's invariant: the layers passed are copied.
 -- Assumes nothing.
 use mathlib.Core.Path.{◌≡◌, refl, ap, ◌∙◌}
-use Prim.Native.Nat.{ℕ, ◌-◌, ◌≤◌}
+use Prim.Native.Nat.{ℕ}
 use native.Mathlib.Omega.{arith}
-use lib.ListN.{length, length-set}
+use lib.ListN.{length-set}
 use lib.Seq.{sets}
-use borrow.Author.Rules.{rules}
 use Rattle.plan_query.specs.Query.{query_length, layers_from}
 use Rattle.plan_query.proofs.Layers.{layer_copied}
 use Rattle.plan_query.proofs.copy_hidden.Goals as goal

@@ -1,11 +1,8 @@
-use mathlib.Core.Path.{◌≡◌, refl, ap, ◌∙◌}
-use Prim.Native.Nat.{ℕ, ◌-◌, ◌≤◌}
-use native.Mathlib.Omega.{arith}
-use lib.ListN.{length, length-set}
+use mathlib.Core.Path.{◌≡◌}
+use Prim.Native.Nat.{◌-◌, ◌≤◌}
+use lib.ListN.{length}
 use lib.Seq.{sets}
-use borrow.Author.Rules.{rules}
 use Rattle.plan_query.specs.Query.{query_length, layers_from}
-use Rattle.plan_query.proofs.Layers.{layer_copied}
 use Rattle.plan_query.proofs.copy_hidden.Given as goal
 
 abbrev pub invariant-loop-i : goal.invariant-loop-i

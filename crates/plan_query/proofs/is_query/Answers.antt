@@ -3,7 +3,6 @@ use mathlib.Core.Path.{ap, ◌∙◌}
 use Prim.Native.Nat.{ℕ}
 use native.Mathlib.Omega.{arith}
 use lib.Dec.{eqb}
-use borrow.Author.Rules.{rules}
 use Rattle.plan_query.proofs.Reading.{too_short, length_below, length_past, length_uneven, kind_decides}
 use Rattle.plan_query.proofs.is_query.Goals as goal
 

@@ -1,5 +1,4 @@
 -- `plan_query::options_at` meets its contract. Assumes nothing.
-use borrow.Author.Rules.{rules}
 use Rattle.plan_query.specs.Query.{options_at}
 use Rattle.plan_query.proofs.options_at.Goals as goal
 

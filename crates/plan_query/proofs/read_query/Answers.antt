@@ -1,5 +1,4 @@
 -- `plan_query::read_query` meets its contract, by its three ends. Assumes nothing.
-use borrow.Author.Rules.{rules}
 use Rattle.plan_query.proofs.Reading.{no_query, has_length, too_long, query_read}
 use Rattle.plan_query.proofs.read_query.Goals as goal
 

@@ -1,5 +1,4 @@
 -- `plan_query::sheet_at` meets its contract. Assumes nothing.
-use borrow.Author.Rules.{rules}
 use Rattle.plan_query.proofs.Reading.{sheet_alone, sheet_behind}
 use Rattle.plan_query.proofs.sheet_at.Goals as goal
 

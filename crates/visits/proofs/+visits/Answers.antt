@@ -1,13 +1,12 @@
 -- The visits, in one induction over the falling number of `Invariants`: the ways out of each function are laws of `Cells` and `References`. Assumes nothing.
-use mathlib.Core.Path.{◌≡◌, refl, sym, ap, ◌∙◌}
+use mathlib.Core.Path.{refl, sym, ap, ◌∙◌}
 use Prim.Native.Nat.{◌-◌}
 use native.Mathlib.Omega.{arith}
 use borrow.Author.Tests.{not-true, not-false}
-use lib.ListN.{length}
 use Rattle.abstract_sheet.specs.Sheet.{cell_record_with}
 use Rattle.visit_items.specs.declared.OpenCell.{OpenCell}
 use Rattle.screen.specs.Screen.{collapses}
-use Rattle.plan_rules.specs.World.{world, ending, each}
+use Rattle.plan_rules.specs.World.{world, ending}
 use Rattle.plan_rules.specs.DrawUnits.{reference_draw_units}
 use Rattle.plan_rules.specs.OnTape.{given, Output, on_reference, on_source, on_source_below, visit_counted_reference, visit_reference, visit_source}
 use Rattle.plan_rules.proofs.Paths.Loops.{each_start, each_go, each_halt, each_done}

@@ -1,7 +1,6 @@
 -- `plan_text::line::put_batch` meets its contract: its pieces are written one after the other.
 -- Assumes nothing.
 use native.Mathlib.Omega.{arith}
-use borrow.Author.Rules.{rules}
 use Rattle.plan_text.specs.Text.{number}
 use Rattle.plan_text.proofs.Pieces.{◌⨾◌, roomy, said}
 use Rattle.plan_text.proofs.line.put_batch.Goals as goal

@@ -1,7 +1,6 @@
 -- `plan_text::line::put_line` meets its contract: the kind chooses the line.
 -- Assumes nothing.
 use borrow.Author.Tests.{ne_eqb}
-use borrow.Author.Rules.{rules}
 use Rattle.plan_text.specs.Text.{line_of}
 use Rattle.plan_text.proofs.Pieces.{nothing}
 use Rattle.plan_text.proofs.line.put_line.Goals as goal

@@ -1,6 +1,5 @@
 -- `plan_text::lines::next_record` meets its contract. Assumes nothing.
 use borrow.Author.Tests.{lt-ltb, le-ltb}
-use borrow.Author.Rules.{rules}
 use Rattle.plan_text.specs.Text.{next_record}
 use Rattle.plan_text.proofs.lines.next_record.Goals as goal
 

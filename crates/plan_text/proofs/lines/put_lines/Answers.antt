@@ -1,14 +1,11 @@
 -- `plan_text::lines::put_lines` meets its contract. The loop's invariant: what is put and the lines left are the lines asked for.
 -- Assumes nothing.
-use mathlib.Core.Path.{◌≡◌, refl}
+use mathlib.Core.Path.{refl}
 use mathlib.Core.Logic.{inl, inr}
-use mathlib.Core.List.{◌++◌}
-use Prim.Native.Nat.{◌+◌, ◌-◌, ◌≤◌, ◌<◌}
+use Prim.Native.Nat.{◌+◌, ◌≤◌, ◌<◌}
 use native.Mathlib.Omega.{arith}
-use lib.ListN.{length, take, drop}
-use borrow.Author.Rules.{rules}
+use lib.ListN.{length}
 use Rattle.walk.proofs.Offsets.{by_order}
-use Rattle.plan_text.specs.Text.{lines_from}
 use Rattle.plan_text.specs.Written.{line_room}
 use Rattle.plan_text.proofs.TapeLines.{from_here, next_further, put_so_far, rest_as_lent}
 use Rattle.plan_text.proofs.lines.put_lines.Goals as goal

@@ -1,14 +1,8 @@
-use mathlib.Core.Path.{◌≡◌, refl}
-use mathlib.Core.Logic.{inl, inr}
+use mathlib.Core.Path.{◌≡◌}
 use mathlib.Core.List.{◌++◌}
-use Prim.Native.Nat.{◌+◌, ◌-◌, ◌≤◌, ◌<◌}
-use native.Mathlib.Omega.{arith}
+use Prim.Native.Nat.{◌-◌, ◌≤◌}
 use lib.ListN.{length, take, drop}
-use borrow.Author.Rules.{rules}
-use Rattle.walk.proofs.Offsets.{by_order}
 use Rattle.plan_text.specs.Text.{lines_from}
-use Rattle.plan_text.specs.Written.{line_room}
-use Rattle.plan_text.proofs.TapeLines.{from_here, next_further, put_so_far, rest_as_lent}
 use Rattle.plan_text.proofs.lines.put_lines.Given as goal
 
 abbrev pub invariant-loop-next : goal.invariant-loop-next

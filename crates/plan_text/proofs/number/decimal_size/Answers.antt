@@ -1,9 +1,6 @@
 -- `plan_text::number::decimal_size` meets its contract. The loop's invariant: the digits passed and those left are all.
 -- Assumes nothing.
-use mathlib.Core.Path.{◌≡◌}
-use Prim.Native.Nat.{◌+◌, ◌≤◌}
 use native.Mathlib.Omega.{arith}
-use Rattle.plan_text.specs.Text.{decimal_size}
 use Rattle.plan_text.proofs.Digits.{decimal_size_few, decimal_size_many, decimal_size_most}
 use Rattle.plan_text.proofs.number.decimal_size.Goals as goal
 

@@ -1,8 +1,6 @@
 use mathlib.Core.Path.{◌≡◌}
 use Prim.Native.Nat.{◌+◌, ◌≤◌}
-use native.Mathlib.Omega.{arith}
 use Rattle.plan_text.specs.Text.{decimal_size}
-use Rattle.plan_text.proofs.Digits.{decimal_size_few, decimal_size_many, decimal_size_most}
 use Rattle.plan_text.proofs.number.decimal_size.Given as goal
 
 abbrev pub invariant-loop-rest : goal.invariant-loop-rest

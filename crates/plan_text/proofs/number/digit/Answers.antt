@@ -1,6 +1,5 @@
 -- `plan_text::number::digit` meets its contract. Assumes nothing.
 use borrow.Author.Tests.{lt-ltb, le-ltb}
-use borrow.Author.Rules.{rules}
 use Rattle.plan_text.specs.Text.{digit}
 use Rattle.plan_text.proofs.number.digit.Goals as goal
 

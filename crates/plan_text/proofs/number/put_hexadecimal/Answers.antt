@@ -1,12 +1,9 @@
 -- `plan_text::number::put_hexadecimal` meets its contract. The loop's invariant: what is written with the digits left is the whole.
 -- Assumes nothing.
-use mathlib.Core.Path.{◌≡◌, refl, ◌∙◌}
-use Prim.Native.Nat.{◌≤◌}
+use mathlib.Core.Path.{refl, ◌∙◌}
 use native.Mathlib.Omega.{arith}
-use lib.ListN.{length, length-set}
-use lib.Seq.{sets}
-use borrow.Author.Rules.{rules}
-use Rattle.plan_text.specs.Text.{digits, hexadecimal}
+use lib.ListN.{length-set}
+use Rattle.plan_text.specs.Text.{hexadecimal}
 use Rattle.plan_text.proofs.Digits.{digit_written, digits_written}
 use Rattle.plan_text.proofs.number.put_hexadecimal.Goals as goal
 

@@ -3,7 +3,6 @@
 use mathlib.Core.Path.{◌∙◌}
 use native.Mathlib.Omega.{arith}
 use lib.ListN.{length-set}
-use borrow.Author.Rules.{rules}
 use Rattle.plan_text.specs.Text.{float}
 use Rattle.plan_text.proofs.Pieces.{behind_blank}
 use Rattle.plan_text.proofs.piece.put_float.Goals as goal

@@ -1,12 +1,8 @@
 -- `plan_text::piece::put_floats` meets its contract. The loop's invariant: the fields passed are written.
 -- Assumes nothing.
 use mathlib.Core.Path.{◌≡◌, refl}
-use Prim.Native.Nat.{◌*◌, ◌-◌, ◌≤◌}
 use native.Mathlib.Omega.{arith}
-use lib.ListN.{length}
-use borrow.Author.Rules.{rules}
 use Rattle.plan_text.specs.Text.{float, each_field}
-use Rattle.plan_text.specs.Written.{Written}
 use Rattle.plan_text.proofs.Pieces.{roomy, nothing, field_written}
 use Rattle.plan_text.proofs.piece.put_floats.Goals as goal
 

@@ -1,7 +1,6 @@
 -- `plan_text::piece::put_label` meets its contract. Assumes nothing.
 use native.Mathlib.Omega.{arith}
 use borrow.Author.Tests.{eq-eqb, ne_eqb}
-use borrow.Author.Rules.{rules}
 use Rattle.plan_text.specs.Text.{label_text}
 use Rattle.plan_text.proofs.Pieces.{roomy}
 use Rattle.plan_text.proofs.piece.put_label.Goals as goal

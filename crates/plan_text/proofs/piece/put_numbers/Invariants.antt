@@ -1,11 +1,8 @@
-use mathlib.Core.Path.{◌≡◌, refl}
+use mathlib.Core.Path.{◌≡◌}
 use Prim.Native.Nat.{◌*◌, ◌-◌, ◌≤◌}
-use native.Mathlib.Omega.{arith}
 use lib.ListN.{length}
-use borrow.Author.Rules.{rules}
 use Rattle.plan_text.specs.Text.{number, each_field}
 use Rattle.plan_text.specs.Written.{Written}
-use Rattle.plan_text.proofs.Pieces.{roomy, nothing, field_written}
 use Rattle.plan_text.proofs.piece.put_numbers.Given as goal
 
 abbrev pub invariant-loop-i : goal.invariant-loop-i

@@ -1,10 +1,8 @@
 -- `plan_text::piece::put_word` meets its contract. The loop's invariant: the characters passed are written.
 -- Assumes nothing.
-use mathlib.Core.Path.{◌≡◌, refl}
-use Prim.Native.Nat.{◌-◌, ◌≤◌}
+use mathlib.Core.Path.{refl}
 use native.Mathlib.Omega.{arith}
-use lib.ListN.{length, take, length-set}
-use lib.Seq.{sets}
+use lib.ListN.{length-set}
 use Rattle.plan_text.proofs.Pieces.{word_more, word_written}
 use Rattle.plan_text.proofs.piece.put_word.Goals as goal
 

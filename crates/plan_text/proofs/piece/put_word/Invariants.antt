@@ -1,9 +1,7 @@
-use mathlib.Core.Path.{◌≡◌, refl}
+use mathlib.Core.Path.{◌≡◌}
 use Prim.Native.Nat.{◌-◌, ◌≤◌}
-use native.Mathlib.Omega.{arith}
-use lib.ListN.{length, take, length-set}
+use lib.ListN.{length, take}
 use lib.Seq.{sets}
-use Rattle.plan_text.proofs.Pieces.{word_more, word_written}
 use Rattle.plan_text.proofs.piece.put_word.Given as goal
 
 abbrev pub invariant-loop-i : goal.invariant-loop-i
