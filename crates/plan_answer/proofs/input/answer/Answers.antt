@@ -1,7 +1,6 @@
 -- `plan_answer::input::answer` meets its contract: what the input begins with decides.
 -- Assumes nothing.
 use native.Mathlib.Omega.{arith}
-use borrow.Author.Rules.{rules}
 use Rattle.plan_query.proofs.Reading.{query_within}
 use Rattle.plan_answer.proofs.Replies.{first_reply, no_query_reply, too_long_reply}
 use Rattle.plan_answer.proofs.input.answer.Goals as goal

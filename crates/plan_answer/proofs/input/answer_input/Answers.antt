@@ -2,7 +2,6 @@
 use mathlib.Core.Path.{sym}
 use native.Mathlib.Omega.{arith}
 use lib.Seq.{length-take-le}
-use borrow.Author.Rules.{rules}
 use Rattle.streams.proofs.Meanings.{whole_within}
 use Rattle.plan_answer.proofs.Replies.{whole_input, too_long_input, unreadable_input}
 use Rattle.plan_answer.proofs.input.answer_input.Goals as goal

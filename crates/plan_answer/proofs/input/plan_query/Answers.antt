@@ -3,7 +3,6 @@
 use mathlib.Core.Path.{sym}
 use native.Mathlib.Omega.{arith}
 use lib.Seq.{length-take-le}
-use borrow.Author.Rules.{rules}
 use Rattle.plan_text.proofs.TapeLines.{from_here}
 use Rattle.plan_answer.proofs.Replies.{tape_reply, tape_within, refusal_reply, no_room_reply}
 use Rattle.plan_answer.proofs.input.plan_query.Goals as goal

@@ -1,7 +1,6 @@
 -- `plan_answer::opened::plan_opened` meets its contract: in its own list an open sheet is planned as without one.
 -- Assumes nothing.
 use mathlib.Core.Path.{◌∙◌}
-use borrow.Author.Rules.{rules}
 use Rattle.plan_answer.proofs.OwnFinder.{left_finder, opened_agrees}
 use Rattle.plan_answer.proofs.opened.plan_opened.Goals as goal
 

@@ -3,7 +3,6 @@
 use mathlib.Core.Path.{◌∙◌}
 use Rattle.plan_rules.specs.OnTape.{given}
 use Rattle.planner.proofs.Sweep.{clean}
-use borrow.Author.Rules.{rules}
 use Rattle.planner.proofs.clean.visit_clean.Goals as goal
 
 pub returns : goal.returns

@@ -4,7 +4,6 @@ use mathlib.Core.Path.{sym, ◌∙◌}
 use Rattle.check_sheet.proofs.Verdict.{checked_as}
 use Rattle.plan_rules.proofs.OutcomeTheorem.{sheet_refused}
 use Rattle.planner.proofs.Finders.{none_seen}
-use borrow.Author.Rules.{rules}
 use Rattle.planner.proofs.entry.plan.Goals as goal
 
 pub returns-in-Refused : goal.returns-in-Refused

@@ -8,7 +8,6 @@ use Rattle.plan_rules.specs.OnTape.{given}
 use Rattle.plan_rules.proofs.OutcomeTheorem.{query_refused, query_passed}
 use Rattle.check_query.proofs.Lent.{counts_lent, marks_lent}
 use Rattle.planner.proofs.Delivered.{sweep_delivered}
-use borrow.Author.Rules.{rules}
 use Rattle.planner.proofs.entry.plan_sound.Goals as goal
 
 pub returns-then-refusal-ne0 : goal.returns-then-refusal-ne0

@@ -1,6 +1,5 @@
 -- `planner::entry::turn_away` meets its contract: all that is lent is zeroed.
 -- Assumes nothing.
-use borrow.Author.Rules.{rules}
 use Rattle.plan_rules.specs.declared.Answer.TheVariants.{Refused}
 use Rattle.plan_rules.specs.Outcome.{outcome}
 use Rattle.planner.specs.WithFinder.{turned_away}

@@ -4,7 +4,6 @@ use mathlib.Core.Path.{ap, ◌∙◌}
 use Rattle.plan_rules.specs.World.{world}
 use Rattle.planner.specs.Answered.{answered}
 use Rattle.planner.proofs.Answers.{tape_fits, tape_exceeds}
-use borrow.Author.Rules.{rules}
 use Rattle.planner.proofs.finish.finish.Goals as goal
 
 pub returns-then-whole-out : goal.returns-then-whole-out

@@ -7,7 +7,6 @@ use Rattle.geometry.specs.declared.placement.Placement.{Placement}
 use Rattle.plan_rules.specs.World.{world}
 use Rattle.plan_rules.specs.OnTape.{given, visit_cell, visit_root}
 use Rattle.plan_rules.proofs.Paths.Plans.{root_visited}
-use borrow.Author.Rules.{rules}
 use Rattle.planner.proofs.root.visit_root.Goals as goal
 
 pub returns-then-fixed-eq0 : goal.returns-then-fixed-eq0

@@ -1,7 +1,6 @@
 -- `planner_c::scene_plan` meets its contract: the numbers of the answer in the equation that `planner::plan` gives.
 -- Assumes nothing.
 use mathlib.Core.Path.{ap, ◌∙◌}
-use borrow.Author.Rules.{rules}
 use Rattle.plan_rules.specs.declared.SceneOptions.{SceneOptions}
 use Rattle.plan_rules.specs.OnTape.{plan_outcome}
 use Rattle.planner_c.proofs.Told.{told}

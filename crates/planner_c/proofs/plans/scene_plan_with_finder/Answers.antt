@@ -1,7 +1,6 @@
 -- `planner_c::scene_plan_with_finder` meets its contract: the numbers of the answer in the equation that `planner::plan_with_finder` gives.
 -- Assumes nothing.
 use mathlib.Core.Path.{ap, ◌∙◌}
-use borrow.Author.Rules.{rules}
 use Rattle.plan_rules.specs.declared.SceneOptions.{SceneOptions}
 use Rattle.planner.specs.WithFinder.{finder_outcome}
 use Rattle.planner_c.proofs.Told.{told}
