@@ -54,10 +54,7 @@ pub fn fail<E: Eprint>(errors: &E, what: &str, error: Error) {
         size: 0,
     };
     let _ = write!(text, "{error}");
-    let size = text.size;
-    if size > ROOM {
-        return;
-    }
+    let size = text.size.min(ROOM);
     let words = &text.bytes[..size];
     let end = before_bracket(words);
     if let Ok(reason) = std::str::from_utf8(&words[..end]) {
