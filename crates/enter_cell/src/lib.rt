@@ -34,7 +34,8 @@ pub fn enter_cell(
         return over(plan, bounds);
     }
     let cells = fixed.counts.cells;
-    if limits::detail_cells_full(plan) {
+    let full = limits::detail_cells_full(plan);
+    if full {
         let boxed = events::add_load_if_boxed(out, plan, Reason::CellLimit, cell, bounds);
         return over(boxed, bounds);
     }

@@ -22,13 +22,13 @@ returns-then-is_outside c =
     ∙ cell_outside g on _ _ d _ _ (placed c.args.transform c.transform_bounds-bounds.ensures e)
     (sym c.is_outside.ensures ∙ c.if-is_outside.true)
 
-pub returns-then-detail_cells_full : goal.returns-then-detail_cells_full
-returns-then-detail_cells_full c =
+pub returns-then-full : goal.returns-then-full
+returns-then-full c =
     λ g on d k e.
-    is_over _ _ _ _ _ k _ c.over-then-detail_cells_full.ensures
+    is_over _ _ _ _ _ k _ c.over-then-full.ensures
     ∙ cell_detail_full g on _ _ d _ _ (placed c.args.transform c.transform_bounds-bounds.ensures e)
     (sym c.is_outside.ensures ∙ c.if-is_outside.false)
-    (sym c.detail_cells_full.ensures ∙ c.if-detail_cells_full.true) _ (c.add_load_if_boxed-boxed.ensures k _)
+    (sym c.detail_cells_full-full.ensures ∙ c.if-full.true) _ (c.add_load_if_boxed-boxed.ensures k _)
 
 pub returns-then-detail_budget_exhausted : goal.returns-then-detail_budget_exhausted
 returns-then-detail_budget_exhausted c =
@@ -36,7 +36,7 @@ returns-then-detail_budget_exhausted c =
     is_over _ _ _ _ _ k _ c.over-then-detail_budget_exhausted.ensures
     ∙ cell_exhausted g on _ _ d _ _ (placed c.args.transform c.transform_bounds-bounds.ensures e)
     (sym c.is_outside.ensures ∙ c.if-is_outside.false)
-    (sym c.detail_cells_full.ensures ∙ c.if-detail_cells_full.false)
+    (sym c.detail_cells_full-full.ensures ∙ c.if-full.false)
     (sym (c.detail_budget_exhausted.ensures g.hidden) ∙ c.if-detail_budget_exhausted.true) _
     (c.add_load_if_boxed-boxed-then-detail_budget_exhausted.ensures k _)
 
@@ -46,7 +46,7 @@ returns-then-stack_contains c =
     is_over _ _ _ _ _ k _ c.over-then-stack_contains.ensures
     ∙ cell_open g on _ _ d _ _ (placed c.args.transform c.transform_bounds-bounds.ensures e)
     (sym c.is_outside.ensures ∙ c.if-is_outside.false)
-    (sym c.detail_cells_full.ensures ∙ c.if-detail_cells_full.false)
+    (sym c.detail_cells_full-full.ensures ∙ c.if-full.false)
     (sym (c.detail_budget_exhausted.ensures g.hidden) ∙ c.if-detail_budget_exhausted.false)
     (sym c.stack_contains.ensures ∙ c.if-stack_contains.true) _ (c.add_load_if_boxed-boxed-then-stack_contains.ensures k _)
 
@@ -55,7 +55,7 @@ returns c =
     λ g on d k e.
     cell_entered g on _ _ d _ _ (placed c.args.transform c.transform_bounds-bounds.ensures e)
     (sym c.is_outside.ensures ∙ c.if-is_outside.false)
-    (sym c.detail_cells_full.ensures ∙ c.if-detail_cells_full.false)
+    (sym c.detail_cells_full-full.ensures ∙ c.if-full.false)
     (sym (c.detail_budget_exhausted.ensures g.hidden) ∙ c.if-detail_budget_exhausted.false)
     (sym c.stack_contains.ensures ∙ c.if-stack_contains.false) _
     (c.count_detail_cell-opened.ensures _ k _ ∙ ap (λ (m : List ℕ). say detail_cell (world c.args.plan c.args.out.now k m)) c.stack_insert.ensures)
