@@ -75,6 +75,14 @@ pub mod switch {
         fn before(self) -> Self;
     }
 
+    /// An error's kind is stepped by its place in Rust's list.
+    impl Number for std::io::ErrorKind {
+        type Wide = i128;
+        fn wide(self) -> i128 { self as i128 }
+        fn up(self) -> i128 { self as i128 + 1 }
+        fn down(self) -> i128 { self as i128 - 1 }
+    }
+
     integer!(u8 u16 u32 u64 usize i32 isize);
     float!(f32 f64);
 

@@ -2,7 +2,8 @@
 
 Rattle code without its contracts and attributes is Rust code, so one file of Rust holds the crates as modules. A *place* is a comparison, an
 integer `match`, or a number of the crates whose numbers are themselves limits. Each place has two changes by one; the switch
-picks one change of one place, or none, and for a test that is called from several places one of these calls, or all.
+picks one change of one place, or none, and for a test that is called from several places one of these calls, or all. A const
+parameter is read as a plain one, so that a size is changed at the call that gives it.
 """
 import os, re
 
@@ -81,6 +82,24 @@ def without_contracts(text):
     return ''.join(out) + text[at:]
 
 
+SIZE = re.compile(r'const (\w+): usize\b(?!\s*=),?\s*')  # a const parameter, no constant
+
+
+def with_plain_sizes(text):
+    """Const parameters as a function's first parameters, their arrays as vectors, and a turbofish's numbers as first arguments."""
+    def head(found):
+        sizes = ''.join(f'{size}: usize, ' for size in SIZE.findall(found[1]))
+        return f"{SIZE.sub('', found[1])}>({sizes}"
+
+    def call(found):
+        return '(' + ''.join(f'{size}, ' for size in re.findall(r'\b\d+\b', found[1]))
+
+    for size in set(SIZE.findall(text)):
+        text = re.sub(r'\[(0u\d+); %s\]' % size, r'vec![\1; %s]' % size, text)
+    text = re.sub(r'(\bfn \w+<[^>]*)>\(', head, text)
+    return re.sub(r'::<([^>]*)>\(\s*', call, text)
+
+
 def tokens_of(text):
     return [t for t in TOKEN.findall(text) if not t.startswith('//')]
 
@@ -135,7 +154,7 @@ class File:
     """A file of a crate: its places, and its text with the switches in."""
     def __init__(self, crate, file, text, places, calls):
         self.crate, self.file, self.places, self.calls = crate, file, places, calls
-        self.tokens = tokens_of(without_contracts(text))
+        self.tokens = tokens_of(with_plain_sizes(without_contracts(text)))
         self.put = {}        # token index: text in its place
         self.compared = set()  # tokens of a comparison's operands
         self.patterns = set()  # tokens of a match's patterns
@@ -185,8 +204,6 @@ class File:
         left, right = text_between(tokens, start, at), text_between(tokens, at + 1, end)
         if left == right or (left, right) == ('s', 't'):
             return  # a test for NaN, or of two signs: no limit
-        if right.startswith('ErrorKind::'):
-            return  # a test of a kind: no number
         test = f'{left} {tokens[at]} {right}'
         number = self.place(test, changes_of(left, tokens[at], right))
         first = next(i for i in range(start, at) if not is_blank(tokens[i]))
@@ -244,7 +261,7 @@ class File:
             return  # a pattern, a float or a zero: no limit
         if before in ('=', '+=', '-=') and tokens[at] not in STARTS or at in self.compared and before not in ('<<', '>>', '&'):
             return  # a start or a step of a loop, or changed with the comparison
-        line_start = max(i for i in range(at) if tokens[i] in ';{}' and tokens[i - 2] != '[')  # not in `[0; n]`
+        line_start = max(i for i in range(at) if tokens[i] in ';{}')
         line_end = next(i for i in range(at, len(tokens)) if tokens[i] in ';{}')
         line = text_between(tokens, line_start + 1, line_end)
         number = self.place(f'{tokens[at]} in {line}', [stepped(tokens[at], 1), stepped(tokens[at], -1)])
@@ -255,7 +272,6 @@ class File:
         text = ''.join(self.put.get(i, t) for i, t in enumerate(self.tokens))
         text = text.replace('crate::', f'crate::{self.crate}::').replace(f'crate::{self.crate}::switch', 'crate::switch')
         text = re.sub(r'\b(pub(\(crate\))? )?(struct|enum)\b', r'#[derive(Clone, Copy)] pub \3', text)
-        text = re.sub(r'\[0(u\d+); (crate::switch::number\([^)]*\))\]', r'vec![0\1; \2]', text)
         text = text.replace('fn main(', 'pub fn main(')
         text = text.replace('std::num::', 'crate::num::').replace('std::io::', 'crate::stdio::')
         return text.replace('extern "C" ', '')
