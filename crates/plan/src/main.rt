@@ -75,8 +75,8 @@ fn lend<
     );
 }
 
-// Lends a tape of so many bytes, which no tape exceeds. The finder has a place for each 26 bytes of input, which no sheet exceeds. Counts and marks are enough
-// for 4,096 cells at depth 48.
+// Lends a tape of so many bytes, which no tape exceeds. The finder has a place for each 26 bytes of input, which no sheet exceeds.
+// Counts and marks are enough for 4,096 cells at depth 48.
 fn lend_tape<R: Read, W: Write, E: Eprint, const TAPE: usize>(
     from: &mut R,
     to: &mut Printer<W, E>,
