@@ -12,7 +12,7 @@ import sys
 
 ENTRIES = ("scene_open", "scene_plan", "scene_plan_with_finder")
 # A call from one of these into its own cycle is one depth below.
-REFERENCES = ("visits::visit_reference", "units::reference_draw_units")
+REFERENCES = ("visits::visit_reference", "units::reference_draw_units", "units::numbered_draw_units")
 
 
 def listing(archive):
@@ -107,9 +107,9 @@ class Archive:
 
 def main(archive, depth):
     found = Archive(listing(archive))
-    cell, inner, units = "visits::visit_cell", *REFERENCES
+    cell, inner, units = "visits::visit_cell", *REFERENCES[:2]
     print("bytes a level by the frames: a cell %d, an inner reference %d, draw units %d" % (
-        found.level(cell, inner), found.level(inner), found.level(units)))
+        found.level(cell, inner), found.level(inner), found.level(units, "units::cell_draw_units")))
     for entry in ENTRIES:
         most, way = found.most(entry, depth)
         names = [(name.split("::")[-1], way.count(name)) for name in dict.fromkeys(way)]

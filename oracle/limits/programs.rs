@@ -2,10 +2,14 @@
 
 /// A query for all of the worked example, with so many hidden layers, none of which the sheet has.
 fn query(hidden: usize) -> Vec<u8> {
+    query_at(0, 1, hidden)
+}
+
+fn query_at(root: u32, depth: u32, hidden: usize) -> Vec<u8> {
     let mut bytes = (54 + 4 * hidden as u32).to_le_bytes().to_vec();
     bytes.extend(20u16.to_le_bytes());
-    bytes.extend(0u32.to_le_bytes());
-    bytes.extend(1u32.to_le_bytes());
+    bytes.extend(root.to_le_bytes());
+    bytes.extend(depth.to_le_bytes());
     for float in [0.0f64, 0.0, 100.0, 100.0, 1.0] {
         bytes.extend(float.to_bits().to_le_bytes());
     }
@@ -32,6 +36,26 @@ fn sheet_of_texts(count: usize) -> Vec<u8> {
 
 fn sheet() -> Vec<u8> {
     sheet_of_texts(1)
+}
+
+/// A reference to a cell, a single one, with a box of 40 by 40.
+fn reference(cell: u32) -> Vec<u8> {
+    let shorts = [1u16, 1, 2, 5].map(u16::to_le_bytes).concat();
+    let floats = [0.0f64, 0.0, 0.0, 0.0, 0.0, 0.0, 1.0, 1.0, 0.0, 0.0, 0.0, 40.0, 40.0].map(|float| float.to_bits().to_le_bytes());
+    [head(122, 4), shorts, cell.to_le_bytes().to_vec(), floats.concat()].concat()
+}
+
+/// A cell without a box, of so many draw units of its own, that lists some references.
+fn cell(units: u64, references: &[u32]) -> Vec<u8> {
+    let counts = [0, 0, 0, references.len() as u16].map(u16::to_le_bytes).concat();
+    let listed = references.iter().flat_map(|number| number.to_le_bytes()).collect();
+    [head(56 + 4 * references.len(), 5), vec![0; 2], units.to_le_bytes().to_vec(), vec![0; 32], counts, listed].concat()
+}
+
+/// Cell 1 is counted at depth 2, where it has 200 draw units, by way of cell 2 at depth 1, where it has one, and at depth 2 again.
+fn counted_at_two_depths() -> Vec<u8> {
+    let references = [0, 1, 1, 2, 1].map(reference).concat();
+    [references, cell(200, &[]), cell(0, &[0]), cell(0, &[1]), cell(0, &[2, 3, 4])].concat()
 }
 
 /// An input of so many bytes: one text that is listed, and texts that are not.
@@ -81,6 +105,14 @@ fn at_buffers() -> Vec<Program> {
     cases.map(|(name, input, text)| Program::new(name, input, fnv1a(text.as_bytes()))).into()
 }
 
+/// A sheet that the stored cases lack. The text is the judge's.
+fn of_depths() -> Vec<Program> {
+    let proxy = |cell: u32| format!("proxy {cell} {0} {0} {1} {1}\n", "0".repeat(16), "4044000000000000");
+    let text = [1, 0, 1].map(proxy).concat() + "totals 3 0 0 0 0 0 0\n";
+    let input = [query_at(3, 3, 0), counted_at_two_depths()].concat();
+    vec![Program::new("a cell that is counted at two depths", input, fnv1a(text.as_bytes()))]
+}
+
 /// Large cases that need all of the scratch, and all of the tape.
 fn at_lent(large: &[Large]) -> Vec<Program> {
     let cases = [
@@ -117,7 +149,7 @@ fn with_faults() -> Vec<Program> {
 
 /// Writes what a built program is to be run on: the inputs without faults, and the texts of the unchanged code.
 fn write_programs(large: &[Large], folder: &str) {
-    for (place, program) in at_buffers().iter().chain(&at_lent(large)).enumerate() {
+    for (place, program) in at_buffers().iter().chain(&of_depths()).chain(&at_lent(large)).enumerate() {
         let text = program.printed();
         assert!(fnv1a(&text) == program.text, "{}: the unchanged code does not pass", program.name);
         fs::write(format!("{folder}/{place}.input"), &program.input).unwrap();

@@ -45,10 +45,11 @@ impl Room {
     /// The text that `plan` prints for an input, with room enough.
     fn text_of(&mut self, input: &[u8]) -> Vec<u8> {
         let Room { finder, hidden, tape, counts, marks, text } = self;
-        let printed = plan_answer::answer(input, finder, hidden, tape, counts, marks);
+        let mut lent = plan_answer::Lent { finder, hidden, tape, counts, marks };
+        let answer = plan_answer::answer(input, &mut lent);
         system::printed(Vec::new(), NO_FAULTS, NO_FAULTS, || {
-            let mut to = streams::Printer { out: HostRuntime, errors: HostRuntime };
-            plan_answer::print_answer(&mut to, true, text, printed, tape);
+            let mut to = streams::Printer::new(HostRuntime, HostRuntime);
+            let _ = plan_answer::print_answer(&mut to, text, answer, lent.tape);
         })
     }
 }
@@ -91,8 +92,8 @@ fn run_small(cases: &[Small]) -> Option<String> {
 fn finds(sheet: &[u8], [kind, number, offset]: [usize; 3]) -> bool {
     kind == 0
         || match walk::find(sheet, kind as u16, number as u32) {
-            walk::Found::At(at) => at == offset,
-            walk::Found::Nothing => offset == u32::MAX as usize,
+            Some(at) => at == offset,
+            None => offset == u32::MAX as usize,
         }
 }
 
@@ -132,12 +133,12 @@ fn computed(file: &str, x: u64, y: u64, z: u64) -> u64 {
         "published-fused.txt" | "document-fused.txt" | "hardware-fused.txt" => bits(fused::mul_add(float(x), float(y), float(z))),
         "published-narrow.txt" | "hardware-narrow.txt" => single_bits(rounding::f64_to_f32(float(x))),
         "document-count.txt" | "hardware-count.txt" => single_bits(rounding::u64_to_f32(x)),
-        "least.txt" => bits(floats::order::f64_min(float(x), float(y))),
-        "greatest.txt" => bits(floats::order::f64_max(float(x), float(y))),
-        "greatest-f32.txt" => single_bits(floats::order::f32_max(single(x), single(y))),
-        "absolute.txt" => bits(floats::order::f64_abs(float(x))),
-        "finite.txt" => u64::from(floats::order::f64_is_finite(float(x))),
-        "finite-f32.txt" => u64::from(floats::order::f32_is_finite(single(x))),
+        "least.txt" => bits(floats::order::min(float(x), float(y))),
+        "greatest.txt" => bits(floats::order::max(float(x), float(y))),
+        "greatest-f32.txt" => single_bits(floats::order::max(single(x), single(y))),
+        "absolute.txt" => bits(float(x).abs()),
+        "finite.txt" => u64::from(float(x).is_finite()),
+        "finite-f32.txt" => u64::from(single(x).is_finite()),
         "pattern.txt" => bits(float(x)),
         _ => panic!("{file}: no operation is known for it"),
     }
@@ -149,16 +150,33 @@ fn run_floats(repository: &str) -> Option<String> {
     names.sort();
     for name in names {
         let text = fs::read_to_string(format!("{folder}/{name}")).unwrap();
-        for line in text.lines().filter(|line| !line.starts_with('#')) {
-            let words: Vec<u64> = line.split_whitespace().map(|word| u64::from_str_radix(word, 16).unwrap()).collect();
-            let (answer, operands) = words.split_last().unwrap();
-            let operand = |i: usize| operands.get(i).copied().unwrap_or(0);
-            if sees(|| computed(&name, operand(0), operand(1), operand(2)) == *answer) {
-                return Some(format!("{name}: {line}"));
-            }
+        if let Some(line) = text.lines().find(|line| !line.starts_with('#') && sees_vector(&name, line)) {
+            return Some(format!("{name}: {line}"));
         }
     }
     None
+}
+
+/// Whether a vector, operands and the answer, sees the change.
+fn sees_vector(name: &str, line: &str) -> bool {
+    let words: Vec<u64> = line.split_whitespace().map(|word| u64::from_str_radix(word, 16).unwrap()).collect();
+    let (answer, operands) = words.split_last().unwrap();
+    let operand = |i: usize| operands.get(i).copied().unwrap_or(0);
+    sees(|| computed(name, operand(0), operand(1), operand(2)) == *answer)
+}
+
+/// Vectors that those files lack, with the machine's answer, and what each shows.
+const MORE_FLOATS: [(&str, &str, &str); 2] = [
+    ("a negative value of the second normal exponent, narrowed", "hardware-narrow.txt", "b828000000000000 81400000"),
+    (
+        "a sum of 2^127 or more, a tie but for its lowest digit",
+        "hardware-fused.txt",
+        "415e861ecae651e5 415bb032c38683ed 441fffff2cb61f7c 4420000000000001",
+    ),
+];
+
+fn run_more_floats() -> Option<String> {
+    MORE_FLOATS.iter().find(|(_, name, line)| sees_vector(name, line)).map(|(shown, _, _)| shown.to_string())
 }
 
 /// What a call of the library answers and leaves: number, offset, length, and a sum over every lent place.
@@ -297,7 +315,7 @@ fn calls(case: &Small) -> Vec<Call> {
         return Vec::new();
     }
     let sheet = sheet_of(&case.input);
-    let check_sheet::Checked::Sound(counts) = check_sheet::check_sheet(sheet) else {
+    let Ok(counts) = check_sheet::check_sheet(sheet) else {
         panic!("{}: a planned case is refused", case.label);
     };
     let need = need(case, counts.cells as usize);
@@ -313,7 +331,7 @@ fn calls(case: &Small) -> Vec<Call> {
 
 /// A case of depth 0 with the first root that the sheet lacks.
 fn without_root(case: &Small) -> Option<Small> {
-    let check_sheet::Checked::Sound(counts) = check_sheet::check_sheet(sheet_of(&case.input)) else { return None };
+    let counts = check_sheet::check_sheet(sheet_of(&case.input)).ok()?;
     let mut input = case.input.clone();
     input[6..10].copy_from_slice(&counts.cells.to_le_bytes());
     Some(Small { label: format!("{}, root {}", case.label, counts.cells), input, text: b"totals 0 0 0 0 0 0 0\n".to_vec() })
@@ -385,8 +403,10 @@ fn seen(repository: &str, folder: &str, change: u32, quick: bool) -> Option<(&'s
     run_small(&cases).map(|case| ("small", case))
         .or_else(|| run_sheets(repository).map(|case| ("sheets", case)))
         .or_else(|| run_floats(repository).map(|case| ("floats", case)))
+        .or_else(|| run_more_floats().map(|case| ("more", case)))
         .or_else(|| run_lent(&cases, change).map(|case| ("lent", case)))
         .or_else(|| run_programs(with_faults()).map(|case| ("program", case)))
+        .or_else(|| run_programs(of_depths()).map(|case| ("program", case)))
         .or_else(|| run_programs(at_buffers()).map(|case| ("program", case)))
         .or_else(|| if quick { None } else { run_all_large(&large).map(|case| ("large", case)) })
         .or_else(|| run_programs(at_lent(&large)).map(|case| ("program", case)))

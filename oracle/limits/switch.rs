@@ -13,7 +13,8 @@ pub mod switch {
     /// Runs a call, noting which it is.
     #[inline(always)]
     pub fn from<R>(call: u32, run: impl FnOnce() -> R) -> R {
-        let before = UNDER_WAY.swap(call, Relaxed);
+        let before = UNDER_WAY.load(Relaxed);
+        UNDER_WAY.store(call, Relaxed);
         let result = run();
         UNDER_WAY.store(before, Relaxed);
         result
@@ -47,6 +48,11 @@ pub mod switch {
                 fn up(self) -> i128 { self as i128 + 1 }
                 fn down(self) -> i128 { self as i128 - 1 }
             }
+        )*};
+    }
+
+    macro_rules! step {
+        ($($name:ty)*) => {$(
             impl Step for $name {
                 fn after(self) -> Self { self.wrapping_add(1) }
                 fn before(self) -> Self { self.wrapping_sub(1) }
@@ -83,7 +89,16 @@ pub mod switch {
         fn down(self) -> i128 { self as i128 - 1 }
     }
 
+    /// Beside the least and the greatest number of 128 bits stand others yet.
+    impl Number for u128 {
+        type Wide = (i8, u128);
+        fn wide(self) -> (i8, u128) { (0, self) }
+        fn up(self) -> (i8, u128) { self.checked_add(1).map_or((1, 0), Self::wide) }
+        fn down(self) -> (i8, u128) { self.checked_sub(1).map_or((-1, 0), Self::wide) }
+    }
+
     integer!(u8 u16 u32 u64 usize i32 isize);
+    step!(u8 u16 u32 u64 u128 usize i32 isize);
     float!(f32 f64);
 
     macro_rules! comparison {

@@ -1,14 +1,14 @@
 -- What a sheet has at a number is what is read where the look-up finds it: for any look-up, and for the walk.
--- From `look 4 n ≡ At at` the law `item_read_by` gives what the sheet by that look-up has at n, `some (reference_at s at)`, and from
--- `look 4 n ≡ Nothing` it gives `none`. Proofs about code cite it through `look_up`.
+-- From `look 4 n ≡ Some at` the law `item_read_by` gives what the sheet by that look-up has at n, `some (reference_at s at)`, and from
+-- `look 4 n ≡ None` it gives `none`. Proofs about code cite it through `look_up`.
 -- Assumes nothing.
 use mathlib.Core.Path.{◌≡◌, refl, sym, ap, ◌∙◌}
 use Prim.Native.Nat.{ℕ, ◌<◌}
 use native.Mathlib.Omega.{arith}
 use mathlib.Core.List.{List}
 use mathlib.Core.Option.{some}
-use Rattle.walk.specs.declared.Found.{Found}
-use Rattle.walk.specs.declared.Found.TheVariants.{At, Nothing}
+use Rattle.walk.specs.Find.{Found}
+use Rattle.std.specs.Prelude.{Some, None}
 use Rattle.walk.specs.Find.{find, count_of}
 use Rattle.walk.proofs.Finding.{find_some, found_below}
 use Rattle.records.specs.Records.{geometry_at, text_at, reference_at}
@@ -33,8 +33,8 @@ module _ (look : ℕ → ℕ → Found) where
     -- what is there is found
     module _ (x : Item kind) where
       by_found : (f : Found) → look (kind_number kind) n ≡ f → read (item_at kind s) f ≡ some x → Located look kind s n x
-      by_found (At at) e h = let q : x ≡ item_at kind s at = cc in record { at = at; found = e; same = q }
-      by_found Nothing e h = let z : ◌≡◌ {A = ℕ} 0 1 = cc in absurd (omega arith)
+      by_found (Some at) e h = let q : x ≡ item_at kind s at = cc in record { at = at; found = e; same = q }
+      by_found None e h = let z : ◌≡◌ {A = ℕ} 0 1 = cc in absurd (omega arith)
 
       pub item_located_by : item kind (sheet_by look s) n ≡ some x → Located look kind s n x
       item_located_by e = by_found (look (kind_number kind) n) refl (sym (by_kind kind s n) ∙ e)

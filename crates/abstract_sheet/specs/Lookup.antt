@@ -2,8 +2,8 @@
 -- Definitions only. Assumes nothing.
 use Rattle.std.specs.Prelude.{◌≡◌, ℕ, List}
 use Rattle.std.proofs.Math.Option.{Option, some}
-use Rattle.walk.specs.declared.Found.{Found}
-use Rattle.walk.specs.declared.Found.TheVariants.{At}
+use Rattle.walk.specs.Find.{Found}
+use Rattle.std.specs.Prelude.{Some}
 use Rattle.abstract_sheet.specs.Sheet.{Kind, kind_number, Item, item_at}
 
 -- something stands at a number
@@ -13,5 +13,5 @@ Exists {A} o = (x : A) × (o ≡ some x)
 -- where a look-up finds a record of a sheet
 pub record Located (look : ℕ → ℕ → Found) (kind : Kind) (s : List ℕ) (n : ℕ) (x : Item kind) : Type 0 where
   pub at : ℕ
-  pub found : look (kind_number kind) n ≡ At at
+  pub found : look (kind_number kind) n ≡ Some at
   pub same : x ≡ item_at kind s at

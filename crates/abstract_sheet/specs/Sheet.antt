@@ -5,8 +5,8 @@ use Rattle.std.specs.Prelude.{ℕ, List}
 use Rattle.std.proofs.Math.Option.{Option, none, some}
 use Rattle.geometry.specs.declared.placement.DVec2.{DVec2}
 use Rattle.geometry.specs.declared.bbox.Bounds.{Bounds}
-use Rattle.walk.specs.declared.Found.{Found}
-use Rattle.walk.specs.declared.Found.TheVariants.{At, Nothing}
+use Rattle.walk.specs.Find.{Found}
+use Rattle.std.specs.Prelude.{Some, None}
 use Rattle.walk.specs.Find.{find}
 use Rattle.records.specs.declared.PreparedGeometry.{PreparedGeometry}
 use Rattle.records.specs.declared.PreparedText.{PreparedText}
@@ -76,8 +76,8 @@ cell_record_at s at = cell_record_with s at (cell_at s at)
 
 -- what stands where a look-up found something
 abbrev pub read : {A : Type 0} → (ℕ → A) → Found → Option A
-read f (At at) = some (f at)
-read f Nothing = none
+read f (Some at) = some (f at)
+read f None = none
 
 -- The sheet as a look-up gives it: `look kind n` says where the record of a kind with a number is.
 -- "1 batch", "2 text", "3 node", "4 reference", "5 cell"

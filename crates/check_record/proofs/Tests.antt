@@ -1,6 +1,6 @@
 -- Laws of the tests: two in turn, and one at each of several places.
 -- Assumes nothing.
-use mathlib.Core.Path.{◌≡◌, refl, ap, subst}
+use mathlib.Core.Path.{◌≡◌, refl, ap, ap₂, subst, ◌∙◌}
 use Prim.Native.Nat.{ℕ, zero, suc, ◌+◌, ◌-◌, ◌*◌, ◌≤◌, ◌<◌}
 use native.Mathlib.Nat.{mul-suc}
 use native.Mathlib.Omega.{arith}
@@ -27,20 +27,34 @@ both_second false true e = refl
 both_second false false e = e
 
 -- the places are passed one by one
-pub every_pass : (p : ℕ → Bool) (w k at : ℕ) → 0 < k → p at ≡ true → every p w k at ≡ every p w (k - 1) (at + w)
+every_pass : (p : ℕ → Bool) (w k at : ℕ) → 0 < k → p at ≡ true → every p w k at ≡ every p w (k - 1) (at + w)
 unfolding every both
 every_pass p w zero at h e = absurd (omega arith)
 every_pass p w (suc k) at h e = let q : k ≡ suc k - 1 = omega arith in rw e (ap (λ (m : ℕ). every p w m (at + w)) q)
 
-pub every_fail : (p : ℕ → Bool) (w k at : ℕ) → 0 < k → p at ≡ false → every p w k at ≡ false
+every_fail : (p : ℕ → Bool) (w k at : ℕ) → 0 < k → p at ≡ false → every p w k at ≡ false
 unfolding every both
 every_fail p w zero at h e = absurd (omega arith)
 every_fail p w (suc k) at h e = rw e
 
-pub every_none : (p : ℕ → Bool) (w k at : ℕ) → k ≤ 0 → every p w k at ≡ true
+every_none : (p : ℕ → Bool) (w k at : ℕ) → k ≤ 0 → every p w k at ≡ true
 unfolding every
 every_none p w zero at h = refl
 every_none p w (suc k) at h = absurd (omega arith)
+
+-- with i of k places behind
+module _ (p : ℕ → Bool) (w k at i : ℕ) where
+  pub every_next : i < k → p (at + w * i) ≡ true → every p w (k - i) (at + w * i) ≡ every p w (k - (i + 1)) (at + w * (i + 1))
+  every_next h e =
+      let left : k - i - 1 ≡ k - (i + 1) = omega arith in
+      let place : at + w * i + w ≡ at + w * (i + 1) = omega (arith, mul-suc w i) in
+      every_pass p w (k - i) (at + w * i) (omega arith) e ∙ ap₂ (every p w) left place
+
+  pub every_stop : i < k → p (at + w * i) ≡ false → every p w (k - i) (at + w * i) ≡ false
+  every_stop h e = every_fail p w (k - i) (at + w * i) (omega arith) e
+
+  pub every_done : k ≤ i → every p w (k - i) (at + w * i) ≡ true
+  every_done h = every_none p w (k - i) (at + w * i) (omega arith)
 
 -- each place is passed
 first_place : (at w : ℕ) → at ≡ at + w * 0

@@ -17,13 +17,8 @@ fn all_finite(s: &[u8], from: usize, count: usize) -> bool
     requires { from + f * count ≤ length s.now }
     ensures { result ≡ every (finite_at s.now) f count from }
 {
-    let mut at = from;
-    let mut left = count;
-    while 0 < left {
-        if is_finite_pattern(fields::u64_within(s, at)) {
-            at += FLOAT;
-            left -= 1;
-        } else {
+    for i in 0..count {
+        if !is_finite_pattern(fields::u64_within(s, from + FLOAT * i)) {
             return false;
         }
     }

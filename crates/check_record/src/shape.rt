@@ -11,6 +11,7 @@ use records::format::{
 };
 
 // How many numbers a cell's four lists have together.
+#[tactic(auto, unfolding(crate::specs::Shape::lists_at))]
 fn lists_at(s: &[u8], at: usize) -> u32
     requires { at + end_of cell ≤ length s.now }
     ensures { result ≡ lists_at s.now at }
@@ -33,24 +34,15 @@ fn length_ok(kind: u16, n: usize) -> bool
 {
     match kind {
         1 => n == GEOMETRY_END,
-        2 => { if TEXT_END <= n { n <= TEXT_MOST } else { false } }
-        3 => {
-            if NODE_LEAST <= n {
-                if n <= NODE_MOST {
-                    (n - NODE_END) % POINT == 0
-                } else {
-                    false
-                }
-            } else {
-                false
-            }
-        }
+        2 => TEXT_END <= n && n <= TEXT_MOST,
+        3 => NODE_LEAST <= n && n <= NODE_MOST && (n - NODE_END) % POINT == 0,
         4 => n == REFERENCE_END,
         _ => false,
     }
 }
 
 // "Is the kind 1 to 5 and the length right for it, a cell's counts included?"
+#[tactic(auto, using(crate::proofs::Tests::tests), unfolding(crate::specs::Shape::shape_ok))]
 pub fn shape_ok(s: &[u8], at: usize) -> bool
     requires { Whole s.now at }
     ensures { result ≡ shape_ok s.now at }
@@ -58,11 +50,7 @@ pub fn shape_ok(s: &[u8], at: usize) -> bool
     let kind = fields::u16_within(s, at + KIND);
     let n = fields::u32_within(s, at) as usize;
     if kind == 5 {
-        if n < CELL_END {
-            return false;
-        }
-        let numbers = lists_at(s, at) as usize;
-        n == CELL_END + NUMBER * numbers
+        CELL_END <= n && n == CELL_END + NUMBER * lists_at(s, at) as usize
     } else {
         length_ok(kind, n)
     }

@@ -18,59 +18,38 @@ const MAX_X: usize = 2 * FLOAT;
 const MAX_Y: usize = 3 * FLOAT;
 
 // "An absent box is 32 zero bytes."
+#[tactic(auto, using(crate::proofs::Tests::tests, crate::proofs::Facts::Numbers::zero_box_fields), unfolding(crate::specs::Tests::both))]
 fn zero_box(s: &[u8], at: usize) -> bool
     requires { at + 4 * f ≤ length s.now }
     ensures { result ≡ zero_box s.now at }
 {
-    if fields::u64_within(s, at) != 0 {
-        return false;
-    }
-    if fields::u64_within(s, at + MIN_Y) != 0 {
-        return false;
-    }
-    if fields::u64_within(s, at + MAX_X) != 0 {
-        return false;
-    }
-    fields::u64_within(s, at + MAX_Y) == 0
+    fields::u64_within(s, at) == 0
+        && fields::u64_within(s, at + MIN_Y) == 0
+        && fields::u64_within(s, at + MAX_X) == 0
+        && fields::u64_within(s, at + MAX_Y) == 0
 }
 
 // "the source kind 1 to 5, and a cell source below FFFFFFFF (hexadecimal)"
+#[tactic(auto, using(crate::proofs::Tests::tests), unfolding(crate::specs::Values::source_ok, crate::specs::Tests::both))]
 fn source_ok(kind: u16, number: u32) -> bool
     ensures { result ≡ source_ok kind number }
 {
-    if kind < 1 {
-        return false;
-    }
-    if 5 < kind {
-        return false;
-    }
-    if kind == 5 {
-        number < records::NO_LABEL
-    } else {
-        true
-    }
+    1 <= kind && kind <= 5 && (kind != 5 || number < records::NO_LABEL)
 }
 
 // What is asked of a reference's numbers, where it is known whether its source is right and whether its box is all zero.
+#[tactic(auto, using(crate::proofs::Tests::tests), unfolding(crate::specs::Values::grid_ok, crate::specs::Tests::both))]
 fn grid_ok(columns: u16, rows: u16, flags: u16, source: bool, zeros: bool) -> bool
     ensures { result ≡ grid_ok columns rows flags source zeros }
 {
-    if MAX_GRID_SIDE < columns {
-        return false;
-    }
-    if MAX_GRID_SIDE < rows {
-        return false;
-    }
-    if 4 <= flags {
-        return false;
-    }
-    if source {
-        if flags / 2 % 2 == 1 { true } else { zeros }
-    } else {
-        false
-    }
+    columns <= MAX_GRID_SIDE
+        && rows <= MAX_GRID_SIDE
+        && flags < 4
+        && source
+        && (flags / 2 % 2 == 1 || zeros)
 }
 
+#[tactic(auto, unfolding(crate::specs::Values::reference_ok))]
 fn reference_ok(s: &[u8], at: usize) -> bool
     requires { at + end_of reference ≤ length s.now }
     ensures { result ≡ reference_ok s.now at }
@@ -84,33 +63,27 @@ fn reference_ok(s: &[u8], at: usize) -> bool
     grid_ok(columns, rows, flags, source, zeros)
 }
 
+#[tactic(auto, using(crate::proofs::Tests::tests), unfolding(crate::specs::Values::cell_ok, crate::specs::Tests::both))]
 fn cell_ok(s: &[u8], at: usize) -> bool
     requires { at + end_of cell ≤ length s.now }
     ensures { result ≡ cell_ok s.now at }
 {
     let flags = fields::u16_within(s, at + CELL_FLAGS);
-    if 2 <= flags {
-        return false;
-    }
-    if flags == 1 {
-        return true;
-    }
-    zero_box(s, at + CELL_BOX)
+    flags < 2 && (flags == 1 || zero_box(s, at + CELL_BOX))
 }
 
 // "Are columns and rows at most 32,767, spare flag bits zero, absent boxes zero, the source kind 1 to 5,
 // and a cell source below FFFFFFFF (hexadecimal)?"
+#[tactic(auto, using(crate::proofs::Tests::tests), unfolding(crate::specs::Values::values_ok))]
 pub fn values_ok(s: &[u8], at: usize) -> bool
     requires whole { Whole s.now at }
     requires at_value { shape_ok s.now at ≡ true }
     ensures { result ≡ values_ok s.now at }
 {
     let kind = fields::u16_within(s, at + KIND);
-    if kind == 4 {
-        return reference_ok(s, at);
+    match kind {
+        4 => reference_ok(s, at),
+        5 => cell_ok(s, at),
+        _ => true,
     }
-    if kind == 5 {
-        return cell_ok(s, at);
-    }
-    true
 }

@@ -16,9 +16,10 @@ use Rattle.check_record.specs.Frame.{frame_ok}
 use Rattle.check_record.specs.Shape.{lists_at, length_ok, shape_ok}
 use Rattle.check_record.specs.Values.{zero_box, source_ok, grid_ok, reference_ok, cell_ok, values_ok}
 use Rattle.check_record.specs.Floats.{finite_at, floats_from, floats_count, floats_ok}
-use Rattle.check_record.specs.Record.{record_refusal}
+use Rattle.check_record.specs.Record.{check_record}
 use lib.Ieee.{of_bits, of_fields, odd}
-use Rattle.check_sheet.specs.declared.Checked.TheVariants.{Sound, Refused}
+use Rattle.std.specs.Prelude.{Ok, Err}
+use Rattle.check_sheet.specs.declared.SheetError.TheVariants.{TooLong}
 use Rattle.check_sheet.specs.Count.{counts_of, tallied}
 use Rattle.check_sheet.specs.Links.{source_named, below_at, lists_named, link_ok}
 use Rattle.check_sheet.proofs.Answers.{too_long}
@@ -119,14 +120,14 @@ as_written (c ∷ cs) =
     both (both (eqb (number_of (check_sheet c.sheet)) c.number) (eqb (offset_of (check_sheet c.sheet)) c.offset)) (as_written cs)
 
 cases_as_written : as_written cases ≡ true
-unfolding as_written cases case head reference cell text record_bytes uint_bytes uint_at f64_at is_finite of_bits of_fields odd offsets_in offsets_from offsets of_kind_in both every frame_ok lists_at length_ok shape_ok zero_box source_ok grid_ok reference_ok cell_ok values_ok finite_at floats_from floats_count floats_ok record_refusal counts_of tallied source_named below_at lists_named link_ok first_no first_unnamed check_sheet
+unfolding as_written cases case head reference cell text record_bytes uint_bytes uint_at f64_at is_finite of_bits of_fields odd offsets_in offsets_from offsets of_kind_in both every frame_ok lists_at length_ok shape_ok zero_box source_ok grid_ok reference_ok cell_ok values_ok finite_at floats_from floats_count floats_ok check_record counts_of tallied source_named below_at lists_named link_ok first_no first_unnamed check_sheet
 cases_as_written = refl
 
 -- the worked example has one text and one cell
-worked_example : check_sheet (text twenty ++ cell 1 hundred hundred 0) ≡ Sound (record { geometries = 0; texts = 1; nodes = 0; references = 0; cells = 1 })
-unfolding cell text record_bytes uint_bytes uint_at f64_at is_finite of_bits of_fields odd offsets_in offsets_from offsets of_kind_in both every frame_ok lists_at length_ok shape_ok zero_box source_ok grid_ok reference_ok cell_ok values_ok finite_at floats_from floats_count floats_ok record_refusal counts_of tallied source_named below_at lists_named link_ok first_no first_unnamed check_sheet
+worked_example : check_sheet (text twenty ++ cell 1 hundred hundred 0) ≡ Ok (record { geometries = 0; texts = 1; nodes = 0; references = 0; cells = 1 })
+unfolding cell text record_bytes uint_bytes uint_at f64_at is_finite of_bits of_fields odd offsets_in offsets_from offsets of_kind_in both every frame_ok lists_at length_ok shape_ok zero_box source_ok grid_ok reference_ok cell_ok values_ok finite_at floats_from floats_count floats_ok check_record counts_of tallied source_named below_at lists_named link_ok first_no first_unnamed check_sheet
 worked_example = refl
 
 -- number 1: zeros, more than a sheet may have
-zeros_too_long : (n : ℕ) → 16777216 < n → check_sheet (replicate n 0) ≡ Refused 1 0
+zeros_too_long : (n : ℕ) → 16777216 < n → check_sheet (replicate n 0) ≡ Err TooLong
 zeros_too_long n h = too_long (replicate n 0) (subst (λ (m : ℕ). 16777216 < m) (sym (length-replicate n 0)) h)

@@ -20,7 +20,9 @@ use Rattle.check_record.specs.Shape.{length_ok, shape_ok}
 use Rattle.check_record.specs.Values.{values_ok}
 use Rattle.check_record.specs.Floats.{finite_at, floats_from, floats_count, floats_ok}
 use Rattle.check_record.specs.Record.{Right}
-use Rattle.check_sheet.specs.declared.Checked.TheVariants.{Refused}
+use Rattle.check_record.specs.declared.RecordError.TheVariants as no
+use Rattle.std.specs.Prelude.{Err}
+use Rattle.check_sheet.specs.declared.SheetError.TheVariants.{Record}
 use Rattle.check_sheet.specs.Check.{check_sheet}
 use Rattle.check_sheet.proofs.Narrow.{long_length_is_refused}
 
@@ -42,7 +44,7 @@ module _ (n : ℕ) (long : max_sheet_bytes < n) (fits : n < 2 ^ 32) (front rest 
       offsets_more sheet (length front) (omega (arith, size)) (omega (arith, length_there))
       ∙ ap (λ (xs : List ℕ). length front ∷ xs) (offsets_end sheet _ (omega (arith, size, length_there)))
 
-  refused_there : (before : List ℕ) → offsets sheet ≡ before ++ length front ∷ [] → All (Right sheet) before → check_sheet sheet ≡ Refused 2 (length front)
+  refused_there : (before : List ℕ) → offsets sheet ≡ before ++ length front ∷ [] → All (Right sheet) before → check_sheet sheet ≡ Err (Record no.Frame (length front))
   refused_there before e right =
       long_length_is_refused sheet before [] (length front) (omega (arith, size)) e right (omega (arith, size, length_there))
 
@@ -52,7 +54,7 @@ text : List ℕ
 text = record_bytes (uint 4 26 ∷ uint 2 2 ∷ uint 2 1 ∷ uint 2 0 ∷ uint 8 0 ∷ uint 8 0 ∷ [])
 
 module _ (n : ℕ) (long : max_sheet_bytes < n) (fits : n < 2 ^ 32) (rest : List ℕ) where
-  first_refused : 4 + length rest ≤ max_sheet_bytes → check_sheet (uint_bytes 4 n ++ rest) ≡ Refused 2 0
+  first_refused : 4 + length rest ≤ max_sheet_bytes → check_sheet (uint_bytes 4 n ++ rest) ≡ Err (Record no.Frame 0)
   first_refused room =
       let room_there : 0 + 4 + length rest ≤ max_sheet_bytes = omega arith in
       refused_there n long fits [] rest room_there [] (offsets_within _ (omega (arith, size n long fits [] rest room_there)) ∙ last n long fits [] rest room_there) tt
@@ -91,14 +93,14 @@ module _ (n : ℕ) (long : max_sheet_bytes < n) (fits : n < 2 ^ 32) (rest : List
         ∙ ap (λ (m : ℕ). 0 ∷ offsets_from behind_text m) next
         ∙ ap (λ (xs : List ℕ). 0 ∷ xs) (last n long fits text rest room_there)
 
-    second_refused : check_sheet behind_text ≡ Refused 2 26
+    second_refused : check_sheet behind_text ≡ Err (Record no.Frame 26)
     second_refused =
-        refused_there n long fits text rest room_there (0 ∷ []) both_records (first_right, tt) ∙ ap (Refused 2) text_length
+        refused_there n long fits text rest room_there (0 ∷ []) both_records (first_right, tt) ∙ ap (λ (n : ℕ). Err (Record no.Frame n)) text_length
 
 -- ---- Paper 4's four lengths
 
 abbrev BothRefused : List ℕ → ℕ → Type 0
-BothRefused rest n = (check_sheet (uint_bytes 4 n ++ rest) ≡ Refused 2 0) × (check_sheet (text ++ (uint_bytes 4 n ++ rest)) ≡ Refused 2 26)
+BothRefused rest n = (check_sheet (uint_bytes 4 n ++ rest) ≡ Err (Record no.Frame 0)) × (check_sheet (text ++ (uint_bytes 4 n ++ rest)) ≡ Err (Record no.Frame 26))
 
 four_refused : (rest : List ℕ) → 30 + length rest ≤ max_sheet_bytes → All (BothRefused rest) long_lengths
 four_refused rest room = (

@@ -7,9 +7,11 @@ use mathlib.Core.List.{List, ◌∷◌}
 use mathlib.Core.Bool.{Bool, true, false}
 use Rattle.walk.specs.Narrow.{ReachesPast}
 use Rattle.check_record.specs.Frame.{frame_ok}
-use Rattle.check_record.specs.Record.{record_refusal}
+use Rattle.check_record.specs.declared.RecordError.TheVariants as no
+use Rattle.check_record.specs.Record.{check_record}
 use Rattle.check_record.proofs.RightRecords.{frame_whole}
-use Rattle.check_sheet.specs.declared.Checked.TheVariants.{Sound, Refused}
+use Rattle.std.specs.Prelude.{Ok, Err}
+use Rattle.check_sheet.specs.declared.SheetError.TheVariants.{Record}
 use Rattle.check_sheet.specs.Count.{counts_of}
 use Rattle.check_sheet.specs.Check.{first_no}
 use Rattle.check_sheet.specs.Narrow.{LongLengthIsRefused}
@@ -17,20 +19,18 @@ use Rattle.check_sheet.proofs.Passes.{first_no_stop, right_passed}
 use Rattle.check_sheet.proofs.Answers.{record_refused}
 
 -- question 2 has the no
-past_refused : (s : List ℕ) (at : ℕ) → ReachesPast s at → record_refusal s at ≡ 2
-unfolding record_refusal
+past_refused : (s : List ℕ) (at : ℕ) → ReachesPast s at → check_record s at ≡ Err no.Frame
+unfolding check_record
 past_refused s at past = by_frame (frame_ok s at) refl
   where
-    by_frame : (b : Bool) → frame_ok s at ≡ b → record_refusal s at ≡ 2
+    by_frame : (b : Bool) → frame_ok s at ≡ b → check_record s at ≡ Err no.Frame
     by_frame true e = let w = frame_whole s at e in absurd (omega (arith, w.within))
     by_frame false e = rw e
 
 pub long_length_is_refused : LongLengthIsRefused
 long_length_is_refused s before after at short e right past =
-    let two = past_refused s at past in
-    let sound = Sound (counts_of s) in
-    record_refused s short (counts_of s) 2 at
+    let sound = Ok (counts_of s) in
+    record_refused s short (counts_of s) (Record no.Frame at)
     (ap (λ (xs : List ℕ). first_no s xs sound) e
     ∙ right_passed s before (at ∷ after) sound right
-    ∙ first_no_stop s at after sound (λ z. omega (arith, two))
-    ∙ ap (λ (n : ℕ). Refused n at) two)
+    ∙ first_no_stop s at after sound (past_refused s at past))

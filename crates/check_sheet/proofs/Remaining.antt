@@ -17,7 +17,8 @@ use Rattle.walk.proofs.Every.{all_step}
 use Rattle.check_record.specs.Record.{Right}
 use Rattle.check_record.proofs.Facts.Lengths.{shape_known}
 use Rattle.check_sheet.specs.declared.Counts.{Counts}
-use Rattle.check_sheet.specs.declared.Checked.TheVariants.{Sound, Refused}
+use Rattle.std.specs.Prelude.{Ok, Err}
+use Rattle.check_sheet.specs.declared.SheetError.TheVariants.{NamesMissing}
 use Rattle.check_sheet.specs.Count.{counts_of, tallied}
 use Rattle.check_sheet.specs.Links.{link_ok}
 use Rattle.check_sheet.specs.Check.{first_unnamed}
@@ -72,7 +73,7 @@ pub record Remaining (s : List ℕ) (c : Counts) (at own left : ℕ) : Type 0 wh
   pub right : All (Right s) (offsets_from s at)
   pub most : own ≤ at
   pub asked : left ≡ asked_in s (offsets_from s at)
-  pub same : first_unnamed s c own (offsets_from s at) (Sound c) ≡ first_unnamed s c 0 (offsets s) (Sound c)
+  pub same : first_unnamed s c own (offsets_from s at) (Ok c) ≡ first_unnamed s c 0 (offsets s) (Ok c)
 
 pub all_remain : (s : List ℕ) (c : Counts) → length s ≤ max_sheet_bytes → All (Right s) (offsets s) → c ≡ counts_of s → Remaining s c 0 0 (c.references + c.cells)
 unfolding counts_of
@@ -82,15 +83,15 @@ all_remain s c short h e =
       right = subst (All (Right s)) all h;
       most = omega arith;
       asked = ap (λ (x : Counts). x.references + x.cells) e ∙ ap (asked_in s) all;
-      same = ap (λ (xs : List ℕ). first_unnamed s c 0 xs (Sound c)) (sym all);
+      same = ap (λ (xs : List ℕ). first_unnamed s c 0 xs (Ok c)) (sym all);
     }
 
 module _ (s : List ℕ) (c : Counts) (at own left : ℕ) (r : Remaining s c at own left) where
   -- where none is left the sheet is sound
-  pub none_remain : left ≤ 0 → Sound c ≡ first_unnamed s c 0 (offsets s) (Sound c)
+  pub none_remain : left ≤ 0 → Ok c ≡ first_unnamed s c 0 (offsets s) (Ok c)
   none_remain h =
       let none : asked_in s (offsets_from s at) ≡ 0 = omega (arith, r.asked) in
-      sym (all_named_later s c own (offsets_from s at) (Sound c) (none_asked_named s c (offsets_from s at) own none)) ∙ r.same
+      sym (all_named_later s c own (offsets_from s at) (Ok c) (none_asked_named s c (offsets_from s at) own none)) ∙ r.same
 
   module _ (some : 0 < left) where
     remains_within : at < length s
@@ -117,9 +118,9 @@ module _ (s : List ℕ) (c : Counts) (at own left : ℕ) (r : Remaining s c at o
         )
 
     passed : link_ok s c own at ≡ true
-        → first_unnamed s c (tallied own (kind_at s at) 4) (offsets_from s (at + length_at s at)) (Sound c) ≡ first_unnamed s c 0 (offsets s) (Sound c)
+        → first_unnamed s c (tallied own (kind_at s at) 4) (offsets_from s (at + length_at s at)) (Ok c) ≡ first_unnamed s c 0 (offsets s) (Ok c)
     passed ok =
-        sym (ap (λ (xs : List ℕ). first_unnamed s c own xs (Sound c)) here ∙ first_unnamed_pass s c own at _ (Sound c) ok) ∙ r.same
+        sym (ap (λ (xs : List ℕ). first_unnamed s c own xs (Ok c)) here ∙ first_unnamed_pass s c own at _ (Ok c) ok) ∙ r.same
 
     -- a reference or a cell that names what exists
     pub asked_passed : 3 < kind_at s at → link_ok s c own at ≡ true → Remaining s c (at + length_at s at) (tallied own (kind_at s at) 4) (left - 1)
@@ -147,6 +148,6 @@ module _ (s : List ℕ) (c : Counts) (at own left : ℕ) (r : Remaining s c at o
         }
 
     -- one that names what is missing
-    pub asked_refused : link_ok s c own at ≡ false → Refused 6 at ≡ first_unnamed s c 0 (offsets s) (Sound c)
+    pub asked_refused : link_ok s c own at ≡ false → Err (NamesMissing at) ≡ first_unnamed s c 0 (offsets s) (Ok c)
     asked_refused no-link =
-        sym (ap (λ (xs : List ℕ). first_unnamed s c own xs (Sound c)) here ∙ first_unnamed_stop s c own at _ (Sound c) no-link) ∙ r.same
+        sym (ap (λ (xs : List ℕ). first_unnamed s c own xs (Ok c)) here ∙ first_unnamed_stop s c own at _ (Ok c) no-link) ∙ r.same

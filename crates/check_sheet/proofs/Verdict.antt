@@ -1,24 +1,46 @@
 -- The verdict says all that an answer does: answers with the same number, offset and counts are the same.
 -- A caller of `check_sheet` who takes its answer apart cites `checked_as` with what it ensures.
 -- Assumes nothing.
-use mathlib.Core.Path.{◌≡◌, ap, ap₂}
+use mathlib.Core.Path.{◌≡◌, refl, sym, ap, ◌∙◌}
 use Prim.Native.Nat.{ℕ}
-use native.Mathlib.Omega.{arith}
 use mathlib.Core.List.{List}
-use mathlib.Core.Option.{some}
+use mathlib.Core.Option.{Option, none, some}
+use mathlib.Core.Bool.{cond}
+use lib.Dec.{eqb}
+use Rattle.std.specs.Prelude.{Ok, Err}
+use Rattle.check_record.specs.declared.RecordError.TheVariants as no
 use Rattle.check_sheet.specs.declared.Counts.{Counts}
-use Rattle.check_sheet.specs.declared.Checked.{Checked}
-use Rattle.check_sheet.specs.declared.Checked.TheVariants.{Sound, Refused}
-use Rattle.check_sheet.specs.Check.{check_sheet, Verdict, verdict, verdict_of}
+use Rattle.check_sheet.specs.declared.SheetError.TheVariants.{TooLong, Record, NamesMissing, TooManyCells}
+use Rattle.check_sheet.specs.Check.{Checked, check_sheet, Verdict, verdict, verdict_of}
 
-same_counts : (c d : Counts) → some c ≡ some d → c ≡ d
-same_counts c d e = cc
+-- the answer of a verdict
+answer : ℕ → ℕ → Option Counts → Checked
+answer n at (some c) = Ok c
+answer n at none =
+    Err
+    (cond (eqb n 1) TooLong
+    (cond (eqb n 2) (Record no.Frame at)
+    (cond (eqb n 3) (Record no.Shape at)
+    (cond (eqb n 4) (Record no.Values at)
+    (cond (eqb n 5) (Record no.Floats at)
+    (cond (eqb n 6) (NamesMissing at) TooManyCells))))))
+
+abbrev answer_of : Verdict → Checked
+answer_of v = answer v.number v.offset v.counts
+
+answer_lem : (r : Checked) → answer_of (verdict r) ≡ r
+unfolding answer
+answer_lem (Ok c) = refl
+answer_lem (Err TooLong) = refl
+answer_lem (Err (Record no.Frame at)) = refl
+answer_lem (Err (Record no.Shape at)) = refl
+answer_lem (Err (Record no.Values at)) = refl
+answer_lem (Err (Record no.Floats at)) = refl
+answer_lem (Err (NamesMissing at)) = refl
+answer_lem (Err TooManyCells) = refl
 
 pub verdict_tells : (r x : Checked) → verdict r ≡ verdict x → r ≡ x
-verdict_tells (Sound c) (Sound d) e = ap Sound (same_counts c d (ap (λ (u : Verdict). u.counts) e))
-verdict_tells (Refused number at) (Refused first place) e = ap₂ Refused (ap (λ (u : Verdict). u.number) e) (ap (λ (u : Verdict). u.offset) e)
-verdict_tells (Sound c) (Refused number at) e = let f = ap (λ (u : Verdict). u.counts) e in let z : ◌≡◌ {A = ℕ} 0 1 = cc in absurd (omega arith)
-verdict_tells (Refused number at) (Sound c) e = let f = ap (λ (u : Verdict). u.counts) e in let z : ◌≡◌ {A = ℕ} 0 1 = cc in absurd (omega arith)
+verdict_tells r x e = sym (answer_lem r) ∙ ap answer_of e ∙ answer_lem x
 
 pub checked_as : (s : List ℕ) (r : Checked) → verdict r ≡ verdict_of s → r ≡ check_sheet s
 checked_as s r e = verdict_tells r (check_sheet s) e

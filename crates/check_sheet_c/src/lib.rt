@@ -5,8 +5,6 @@
 ghost use Rattle.std.specs.Prelude.{◌≡◌};
 ghost use Rattle.check_sheet.specs.Check.{verdict_of};
 
-use check_sheet::Checked;
-
 // The number of the first no, with its offset, or 0 and 0 for a sound sheet.
 #[unsafe(no_mangle)]
 pub extern "C" fn sheet_check(s: &[u8], offset: &mut usize) -> u32
@@ -14,13 +12,13 @@ pub extern "C" fn sheet_check(s: &[u8], offset: &mut usize) -> u32
     ensures offset_after { offset.new ≡ (verdict_of s.now).offset }
 {
     match check_sheet::check_sheet(s) {
-        Checked::Sound(_) => {
+        Ok(_) => {
             *offset = 0;
             0
         }
-        Checked::Refused(number, at) => {
-            *offset = at;
-            number
+        Err(error) => {
+            *offset = error.offset();
+            error.number()
         }
     }
 }

@@ -6,9 +6,9 @@ use Prim.Native.Nat.{ℕ, ◌<◌}
 use lib.Dec.{leb, eqb, eqb→eq, nleb→lt}
 use lib.Dec.{T as Yes}
 use lib.Ieee.{Float}
-use Rattle.screen.specs.declared.CollapseTest.{CollapseTest}
+use Rattle.std.specs.Prelude.{Some}
 use Rattle.screen.specs.declared.CollapseTest.TheVariants as test
-use Rattle.screen.specs.Screen.{collapse_test, collapses}
+use Rattle.screen.specs.Screen.{FirstMet, collapse_test, collapses}
 use Rattle.plan_rules.specs.World.{contains}
 use Rattle.cover.specs.View.{Lacks}
 
@@ -35,6 +35,6 @@ pub collapses_at_depth_1 : (width height : Float) (members units depth : ℕ) �
 unfolding collapse_test
 collapses_at_depth_1 width height members units depth y = by (leb depth 1) (nleb→lt depth 1) _ y
   where
-    by : (b : Bool) → (Yes (not b) → 1 < depth) → (c : CollapseTest) → Yes (not (collapses (cond b test.Depth c))) → 1 < depth
+    by : (b : Bool) → (Yes (not b) → 1 < depth) → (c : FirstMet) → Yes (not (collapses (cond b (Some test.Depth) c))) → 1 < depth
     by true f c t = absurd t
     by false f c t = f tt

@@ -1,2 +1,4 @@
--- Laws that the proofs about steps of a visit cite. Assumes nothing.
-pub mod Over  -- a step after which nothing is left to do
+-- Facts that the proofs about this crate's code and those above cite.
+--     Opened    one name that opens what an event leaves
+-- Assumes nothing.
+pub mod Opened

@@ -1,5 +1,8 @@
 // One function for each event that a plan counts: what it adds to the totals, and the record it puts on the tape if there is one.
 // The record is written if it fits; the tape's end grows in any case, which is how refusal 12 is seen.
+
+#![tactic(auto, unfolding(crate::proofs::Opened::opened))]
+
 ghost use Rattle.std.specs.Prelude.{◌≡◌, Bool, List, ℕ};
 ghost use Rattle.geometry.specs.declared.bbox.WorldBBox.{WorldBBox};
 ghost use Rattle.plan_rules.specs.declared.Reason.{Reason};
@@ -11,26 +14,31 @@ use geometry::bbox::WorldBBox;
 use geometry::placement::{DVec2, Placement};
 use limits::saturating_add;
 use plan_rules::{Reason, ScenePlan};
+use tape::{Batch, Point, Proxy, Text};
 
 // ---- listed
 
 pub fn list_batch(out: &mut [u8], plan: ScenePlan, number: u32, placement: Placement) -> ScenePlan
     ensures { Leaves result out.exit (say (batch number placement)) plan out.entry }
 {
-    let mut next = plan;
-    next.tape_end = tape::write_batch(out, plan.tape_end, number, placement);
-    next.detail_objects = saturating_add(plan.detail_objects, 1);
-    next
+    let listed = Batch { number, placement };
+    ScenePlan {
+        tape_end: tape::write(out, plan.tape_end, &listed),
+        detail_objects: saturating_add(plan.detail_objects, 1),
+        ..plan
+    }
 }
 
 pub fn list_text(out: &mut [u8], plan: ScenePlan, number: u32, position: DVec2) -> ScenePlan
     ensures { Leaves result out.exit (say (text number position)) plan out.entry }
 {
-    let mut next = plan;
-    next.tape_end = tape::write_text(out, plan.tape_end, number, position);
-    next.texts = saturating_add(plan.texts, 1);
-    next.detail_objects = saturating_add(plan.detail_objects, 1);
-    next
+    let listed = Text { number, position };
+    ScenePlan {
+        tape_end: tape::write(out, plan.tape_end, &listed),
+        texts: saturating_add(plan.texts, 1),
+        detail_objects: saturating_add(plan.detail_objects, 1),
+        ..plan
+    }
 }
 
 pub fn list_point(
@@ -42,10 +50,16 @@ pub fn list_point(
 ) -> ScenePlan
     ensures { Leaves result out.exit (say (point layer node_type position)) plan out.entry }
 {
-    let mut next = plan;
-    next.tape_end = tape::write_point(out, plan.tape_end, layer, node_type, position);
-    next.detail_objects = saturating_add(plan.detail_objects, 1);
-    next
+    let listed = Point {
+        layer,
+        node_type,
+        position,
+    };
+    ScenePlan {
+        tape_end: tape::write(out, plan.tape_end, &listed),
+        detail_objects: saturating_add(plan.detail_objects, 1),
+        ..plan
+    }
 }
 
 // The tape does not say why.
@@ -58,70 +72,80 @@ pub fn list_proxy(
 ) -> ScenePlan
     ensures { Leaves result out.exit (say (proxy why label bbox)) plan out.entry }
 {
-    let mut next = plan;
-    next.tape_end = tape::write_proxy(out, plan.tape_end, label, bbox);
-    next.load_proxies = saturating_add(plan.load_proxies, 1);
-    next
+    let listed = Proxy { label, bbox };
+    ScenePlan {
+        tape_end: tape::write(out, plan.tape_end, &listed),
+        load_proxies: saturating_add(plan.load_proxies, 1),
+        ..plan
+    }
 }
 
 pub fn list_totals(out: &mut [u8], plan: ScenePlan) -> ScenePlan
     ensures { Leaves result out.exit (say (totals plan)) plan out.entry }
 {
-    let mut next = plan;
-    next.tape_end = tape::write_totals(out, plan.tape_end, plan);
-    next
+    ScenePlan {
+        tape_end: tape::write(out, plan.tape_end, &plan),
+        ..plan
+    }
 }
 
 // ---- counted only
+// Kept: a function for each of the six totals: each is one expression, and a trait would need a type and an impl for each.
 
 pub fn count_culled_reference(plan: ScenePlan) -> ScenePlan
     ensures { (o k m : List ℕ) → world result o k m ≡ say culled_reference (world plan o k m) }
 {
-    let mut next = plan;
-    next.culled_references = saturating_add(plan.culled_references, 1);
-    next
+    ScenePlan {
+        culled_references: saturating_add(plan.culled_references, 1),
+        ..plan
+    }
 }
 
 pub fn count_skipped_member(plan: ScenePlan) -> ScenePlan
     ensures { (degenerate : Bool) (box : WorldBBox) (o k m : List ℕ) → world result o k m ≡ say (skipped_member degenerate box) (world plan o k m) }
 {
-    let mut next = plan;
-    next.skipped_subpixel_references = saturating_add(plan.skipped_subpixel_references, 1);
-    next
+    ScenePlan {
+        skipped_subpixel_references: saturating_add(plan.skipped_subpixel_references, 1),
+        ..plan
+    }
 }
 
 pub fn count_culled_batch(plan: ScenePlan) -> ScenePlan
     ensures { (o k m : List ℕ) → world result o k m ≡ say culled_batch (world plan o k m) }
 {
-    let mut next = plan;
-    next.culled_geometry_batches = saturating_add(plan.culled_geometry_batches, 1);
-    next
+    ScenePlan {
+        culled_geometry_batches: saturating_add(plan.culled_geometry_batches, 1),
+        ..plan
+    }
 }
 
 pub fn count_skipped_batch(plan: ScenePlan) -> ScenePlan
     ensures { (box : WorldBBox) (o k m : List ℕ) → world result o k m ≡ say (skipped_batch box) (world plan o k m) }
 {
-    let mut next = plan;
-    next.skipped_subpixel_geometry_batches = saturating_add(
-        plan.skipped_subpixel_geometry_batches,
-        1,
-    );
-    next
+    ScenePlan {
+        skipped_subpixel_geometry_batches: saturating_add(
+            plan.skipped_subpixel_geometry_batches,
+            1,
+        ),
+        ..plan
+    }
 }
 
 // The plan does not say why, nor which.
 pub fn count_dropped_proxy(plan: ScenePlan) -> ScenePlan
     ensures { (why : Reason) (label : ℕ) (box : WorldBBox) (o k m : List ℕ) → world result o k m ≡ say (dropped_proxy why label box) (world plan o k m) }
 {
-    let mut next = plan;
-    next.dropped_load_proxies = saturating_add(plan.dropped_load_proxies, 1);
-    next
+    ScenePlan {
+        dropped_load_proxies: saturating_add(plan.dropped_load_proxies, 1),
+        ..plan
+    }
 }
 
 pub fn count_detail_cell(plan: ScenePlan) -> ScenePlan
     ensures { (o k m : List ℕ) → world result o k m ≡ say detail_cell (world plan o k m) }
 {
-    let mut next = plan;
-    next.detail_cells = saturating_add(plan.detail_cells, 1);
-    next
+    ScenePlan {
+        detail_cells: saturating_add(plan.detail_cells, 1),
+        ..plan
+    }
 }

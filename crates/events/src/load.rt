@@ -1,4 +1,7 @@
 // Proxies: `add_load`. A full list drops further proxies; the totals say how many.
+
+#![tactic(auto, unfolding(plan_rules::specs::Push::add_load))]
+
 ghost use Rattle.std.specs.Prelude.{◌≡◌};
 ghost use Rattle.plan_rules.specs.Visit.{collapse_reason};
 ghost use Rattle.plan_rules.specs.OnTape.{Leaves, add_load, add_load_if_boxed};
@@ -34,16 +37,10 @@ pub fn add_load_if_boxed(
 ) -> ScenePlan
     ensures { Leaves result out.exit (add_load_if_boxed why label bounds) plan out.entry }
 {
-    let Bounds::Box(min_x, min_y, max_x, max_y) = bounds else {
+    let Some(bbox) = bounds.bbox() else {
         return plan;
     };
-    add_load(
-        out,
-        plan,
-        why,
-        label,
-        WorldBBox::new(min_x, min_y, max_x, max_y),
-    )
+    add_load(out, plan, why, label, bbox)
 }
 
 // The reason that a test gives a reference's or a member's box.
@@ -51,7 +48,6 @@ pub fn collapse_reason(test: CollapseTest) -> Reason
     ensures { result ≡ collapse_reason test }
 {
     match test {
-        CollapseTest::Passed => Reason::DenseReference,
         CollapseTest::Depth => Reason::DepthAtMostOne,
         CollapseTest::Side => Reason::SmallSide,
         CollapseTest::Grid => Reason::LargeGrid,

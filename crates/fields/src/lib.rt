@@ -1,6 +1,7 @@
 // Little-endian fields of a slice of bytes: u16, u32, u64 and f64, read at an offset and written at one.
 // A function whose name ends in `_within` requires that the field lies wholly inside, and tests nothing.
 // The others are total: a byte past the end is read as 0 and is not written.
+// Kept: each width is built of halves. As instances of one reader and one writer of N bytes (`from_le_bytes`) `check_sheet` took up to 21 % longer, `walk::find` 4 to 19 %.
 
 #![tactic(auto)]
 

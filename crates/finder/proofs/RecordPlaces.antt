@@ -7,7 +7,7 @@ use Prim.Native.Nat.{ℕ, zero, suc}
 use native.Mathlib.Omega.{arith}
 use lib.ListN.{get_or, get_elem?}
 use Rattle.walk.specs.Find.{of_kind, find}
-use Rattle.walk.specs.declared.Found.TheVariants.{At}
+use Rattle.std.specs.Prelude.{Some}
 use Rattle.walk.proofs.Finding.{found_at, found_below}
 use Rattle.abstract_sheet.specs.Sheet.{kind_number}
 use Rattle.finder.specs.Statements.{HasPlace, EveryRecordHasItsPlace}
@@ -19,7 +19,7 @@ nth [] n at e = let z : ◌≡◌ {A = ℕ} 0 1 = cc in absurd (omega arith)
 nth (x ∷ xs) zero at e = cc
 nth (x ∷ xs) (suc n) at e = nth xs n at e
 
-pub known_place : (s : List ℕ) (kind n at : ℕ) → Known kind → find s kind n ≡ At at → HasPlace s kind n at
+pub known_place : (s : List ℕ) (kind n at : ℕ) → Known kind → find s kind n ≡ Some at → HasPlace s kind n at
 known_place s kind n at known e =
     let stands = kind_starts s kind known in
     let below = found_below s kind n at e in

@@ -8,7 +8,7 @@ use native.Mathlib.Decide.{ℕ_discrete}
 use native.Mathlib.Omega.{arith}
 use lib.ListN.{length}
 use Rattle.walk.specs.Find.{count_of, find}
-use Rattle.walk.specs.declared.Found.TheVariants.{At}
+use Rattle.std.specs.Prelude.{Some}
 use Rattle.walk.proofs.Offsets.{by_order}
 use Rattle.walk.proofs.Finding.{find_some, find_none}
 use Rattle.abstract_sheet.specs.Sheet.{sheet_of, Kind, kind_number}
@@ -34,7 +34,7 @@ module _ (s f : List ℕ) (own : belongs f s ≡ true) where
       let place = known_place s kind n found.0 known found.1 in
       let here = starts_place f (finder_of s) own (start_for (counts_of s) kind + n) place.within in
       look_hit f (counts_of s) kind n (omega (arith, count_for_lem s kind known)) _ refl here.within
-      ∙ ap At (here.same ∙ place.holds)
+      ∙ ap Some (here.same ∙ place.holds)
       ∙ sym found.1)
 
   look_finds : (kind : Kind) (n : ℕ) → look s f (counts_of s) (kind_number kind) n ≡ find s (kind_number kind) n

@@ -3,7 +3,7 @@
 use Rattle.std.specs.Prelude.{◌≡◌, true, false, List, [], ◌++◌, ℕ, ◌+◌, ◌*◌, ◌≤◌, ◌<◌, length, get_or, drop}
 use Rattle.walk.specs.Offsets.{offsets}
 use Rattle.walk.specs.Find.{find}
-use Rattle.walk.specs.declared.Found.TheVariants.{At}
+use Rattle.std.specs.Prelude.{Some}
 use Rattle.records.specs.Format.{text, end_of}
 use Rattle.abstract_sheet.specs.Sheet.{sheet_of, Kind, cells, kind_number}
 use Rattle.check_sheet.specs.declared.Counts.{Counts}
@@ -48,7 +48,7 @@ pub record HasPlace (s : List ℕ) (kind n at : ℕ) : Type 0 where
 
 -- each record that is found by its number has its place
 abbrev pub EveryRecordHasItsPlace : Type 0
-EveryRecordHasItsPlace = (s : List ℕ) (kind : Kind) (n at : ℕ) → find s (kind_number kind) n ≡ At at → HasPlace s (kind_number kind) n at
+EveryRecordHasItsPlace = (s : List ℕ) (kind : Kind) (n at : ℕ) → find s (kind_number kind) n ≡ Some at → HasPlace s (kind_number kind) n at
 
 -- as many places as the counts say: behind the start of the cells, the cells
 abbrev pub PlacesAreTheCounts : Type 0

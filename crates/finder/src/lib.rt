@@ -33,6 +33,7 @@ pub fn belongs(sheet: &[u8], finder: &[u32], c: Counts) -> bool
     let mut places = starts(c);
     let size = sheet.len() as u32;
     let mut at = 0u32;
+    // Kept: `for head in walk::records(sheet)` was proved; it tests each length again, and took 14 to 16 % longer on records of 26 bytes.
     while at < size {
         let kind = walk::kind_within(sheet, at) as usize;
         let place = places[kind];

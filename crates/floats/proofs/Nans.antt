@@ -28,10 +28,22 @@ nan_of_test nan h = refl
 nan_of_test (inf s) h = absurd (false≢true h)
 nan_of_test (fin s m e) h = absurd (false≢true h)
 
+pub number_of_test : (x : Float) → is_nan x ≡ false → T (not (is_nan x))
+number_of_test x h = subst (λ (b : Bool). T (not b)) (sym h) tt
+
 pub zero_by_zero : (f : Format) → div f (of_bits f 0) (of_bits f 0) ≡ nan
 unfolding div of_bits
 zero_by_zero binary32 = refl
 zero_by_zero binary64 = refl
+
+-- the constants `f32::NAN` and `f64::NAN`
+pub nan_32 : of_bits binary32 0x7fc0_0000 ≡ nan
+unfolding of_bits
+nan_32 = refl
+
+pub nan_64 : of_bits binary64 0x7ff8_0000_0000_0000 ≡ nan
+unfolding of_bits
+nan_64 = refl
 
 finite_is_number : (x : Float) → is_finite x ≡ true → T (not (is_nan x))
 unfolding is_finite is_nan

@@ -1,4 +1,2 @@
 -- What the proofs on the order of floats cite.
 mod Choice
-mod Bounds
-mod SignBit

@@ -1,72 +1,66 @@
 // The order of floats as document 01 reads it: a NaN is passed over, and of equal values the first is
-// taken, the sign of zero included.
-ghost use Rattle.std.specs.Prelude.{◌≡◌};
-ghost use Rattle.floats.specs.Order.{min_num, max_num, abs, is_finite};
+// taken, the sign of zero included. (std's `min` and `max` leave open which of two equals they give.)
+ghost use Rattle.std.specs.Prelude.{◌≡◌, Float};
+ghost use Rattle.std.specs.Float.Ieee.{lt, is_nan};
+ghost use Rattle.floats.specs.Order.{min_num, max_num};
 
-// The greater of a and b.
-pub fn f32_max(a: f32, b: f32) -> f32
-    ensures { result ≡ max_num a b }
-{
-    if a != a {
-        return b;
+// A float of either width, with the two tests that the order rests on.
+pub trait IeeeFloat: Copy {
+    ghost value: { Self → Float };
+
+    fn is_not_number(self) -> bool
+        ensures { result ≡ is_nan (value self) };
+
+    fn is_below(self, other: Self) -> bool
+        ensures { result ≡ lt (value self) (value other) };
+}
+
+impl IeeeFloat for f32 {
+    ghost value = { λ x. x };
+
+    fn is_not_number(self) -> bool {
+        self.is_nan()
     }
-    if b != b {
-        return a;
+
+    fn is_below(self, other: f32) -> bool {
+        self < other
     }
-    if a < b { b } else { a }
+}
+
+impl IeeeFloat for f64 {
+    ghost value = { λ x. x };
+
+    fn is_not_number(self) -> bool {
+        self.is_nan()
+    }
+
+    fn is_below(self, other: f64) -> bool {
+        self < other
+    }
 }
 
 // The lesser of a and b.
-pub fn f64_min(a: f64, b: f64) -> f64
-    ensures { result ≡ min_num a b }
+pub fn min<F: IeeeFloat>(a: F, b: F) -> F
+    ensures { F.value result ≡ min_num (F.value a) (F.value b) }
 {
-    if a != a {
+    if a.is_not_number() {
         return b;
     }
-    if b != b {
+    if b.is_not_number() {
         return a;
     }
-    if b < a { b } else { a }
+    if b.is_below(a) { b } else { a }
 }
 
 // The greater of a and b.
-pub fn f64_max(a: f64, b: f64) -> f64
-    ensures { result ≡ max_num a b }
+pub fn max<F: IeeeFloat>(a: F, b: F) -> F
+    ensures { F.value result ≡ max_num (F.value a) (F.value b) }
 {
-    if a != a {
+    if a.is_not_number() {
         return b;
     }
-    if b != b {
+    if b.is_not_number() {
         return a;
     }
-    if a < b { b } else { a }
-}
-
-// x with the sign bit cleared, so that the absolute value of -0.0 is 0.0.
-pub fn f64_abs(x: f64) -> f64
-    ensures { result ≡ abs x }
-{
-    if x > 0.0 {
-        return x;
-    }
-    if x != x {
-        return x;
-    }
-    f64::from_bits(f64::to_bits(x) & 0x7fff_ffff_ffff_ffff)
-}
-
-// Whether x is neither an infinity nor a NaN.
-pub fn f32_is_finite(x: f32) -> bool
-    ensures { result ≡ is_finite x }
-{
-    let infinity = 1.0f32 / 0.0;
-    if x < infinity { -infinity < x } else { false }
-}
-
-// Whether x is neither an infinity nor a NaN.
-pub fn f64_is_finite(x: f64) -> bool
-    ensures { result ≡ is_finite x }
-{
-    let infinity = 1.0f64 / 0.0;
-    if x < infinity { -infinity < x } else { false }
+    if a.is_below(b) { b } else { a }
 }

@@ -9,10 +9,10 @@ ghost use Rattle.floats.specs.Order.{is_finite};
 pub fn f64_to_bits(x: f64) -> u64
     ensures { result ≡ to_bits binary64 x }
 {
-    if x != x {
+    if x.is_nan() {
         0x7ff8_0000_0000_0000
     } else {
-        f64::to_bits(x)
+        x.to_bits()
     }
 }
 
@@ -24,7 +24,7 @@ pub fn f64_from_bits(n: u64) -> f64
     if n & 0x7fff_ffff_ffff_ffff <= 0x7ff0_0000_0000_0000 {
         f64::from_bits(n)
     } else {
-        0.0 / 0.0
+        f64::NAN
     }
 }
 

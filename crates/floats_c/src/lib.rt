@@ -36,9 +36,10 @@ pub extern "C" fn floats_u64_to_f32(n: u64) -> f32
 }
 
 // x with the sign bit cleared.
+#[tactic(auto, unfolding(floats::specs::Order::abs))]
 #[unsafe(no_mangle)]
 pub extern "C" fn floats_f64_abs(x: f64) -> f64
     ensures { result ≡ abs x }
 {
-    floats::order::f64_abs(x)
+    x.abs()
 }

@@ -5,167 +5,86 @@
 
 #![tactic(auto)]
 
-mod cases;
-mod single;
-mod text;
+mod cases; // a group of vectors, replayed
+mod operations; // what the groups replay, on patterns
+mod single; // an f32 as its bits
+mod text; // words in a text
 
-use cases::{Operation, Tally};
+use cases::{Group, Tally};
+use operations::{
+    absolute, count, finite, finite_single, greatest, greatest_single, least, mul_add, narrow,
+    pattern,
+};
 use std::fs;
 use std::io::{Eprint, Write};
 use std::rt::Files;
-use streams::{Input, Printer};
+use streams::{NotWhole, Printer};
 
-// Replays the file at the path, says what came of it under the name, and answers the tally with that of
-// the groups before. A file that cannot be read whole counts as one failed case.
-fn group<F: Files, W: Write, E: Eprint>(
-    files: &F,
-    to: &mut Printer<W, E>,
-    name: &str,
-    path: &str,
-    operation: Operation,
-    before: Tally,
-) -> Tally {
-    let mut file = match fs::open(files, path) {
+// Replays the file of a group, where it can be read whole. Where it cannot, standard error says why.
+fn replay<F: Files, E: Eprint>(files: &F, errors: &E, group: &Group) -> Option<Tally> {
+    let mut file = match fs::open(files, group.file) {
         Ok(file) => file,
         Err(error) => {
-            streams::fail(&to.errors, path, error);
-            return cases::unread(before);
+            streams::fail(errors, group.file, error);
+            return None;
         }
     };
     let mut buffer = [0u8; 65536];
-    match streams::read_to_end(&mut file, &to.errors, &mut buffer) {
-        Input::Whole(size) => {
-            let tally = cases::replay(operation, &buffer[..size]);
-            cases::sum(before, tally, print(to, before.going, name, tally))
-        }
-        _ => cases::unread(before),
-    }
+    let size = streams::read_to_end(&mut file, errors, &mut buffer).ok()?;
+    Some(group.replay(&buffer[..size]))
 }
 
 fn print<W: Write, E: Eprint>(
     to: &mut Printer<W, E>,
-    going: bool,
     name: &str,
     tally: Tally,
-) -> bool {
-    let going = streams::print(to, going, name.as_bytes());
-    let going = streams::print(to, going, b": ");
-    let going = streams::print_number(to, going, tally.passed);
-    let going = streams::print(to, going, b" passed, ");
-    let going = streams::print_number(to, going, tally.failed);
-    streams::print(to, going, b" failed\n")
+) -> Result<(), NotWhole> {
+    to.print(name.as_bytes())?;
+    to.print(b": ")?;
+    to.print_number(tally.passed)?;
+    to.print(b" passed, ")?;
+    to.print_number(tally.failed)?;
+    to.print(b" failed\n")
+}
+
+// Replays each group, says what came of it under its name, and answers the sum. A file that cannot be read whole counts as one failed
+// case. Every file is read, also where a write failed: the printer remembers that, and prints no more.
+fn replay_all<F: Files, W: Write, E: Eprint>(
+    files: &F,
+    to: &mut Printer<W, E>,
+    groups: &[Group],
+) -> Tally {
+    let mut sum = Tally::default();
+    for group in groups {
+        match replay(files, &to.errors, group) {
+            Some(tally) => {
+                let _ = print(to, group.name, tally);
+                sum = sum + tally;
+            }
+            None => sum = sum + Tally::of(false),
+        }
+    }
+    sum
 }
 
 fn main(rt: HostRuntime) {
-    let mut to = Printer {
-        out: rt.stdout(),
-        errors: rt.stderr(),
-    };
-    let t = cases::none();
-    let t = group(
-        &rt,
-        &mut to,
-        "fused, published",
-        "published-fused.txt",
-        Operation::Fused,
-        t,
-    );
-    let t = group(
-        &rt,
-        &mut to,
-        "fused, document 01",
-        "document-fused.txt",
-        Operation::Fused,
-        t,
-    );
-    let t = group(
-        &rt,
-        &mut to,
-        "fused, hardware",
-        "hardware-fused.txt",
-        Operation::Fused,
-        t,
-    );
-    let t = group(
-        &rt,
-        &mut to,
-        "f64 to f32, published",
-        "published-narrow.txt",
-        Operation::Narrow,
-        t,
-    );
-    let t = group(
-        &rt,
-        &mut to,
-        "f64 to f32, hardware",
-        "hardware-narrow.txt",
-        Operation::Narrow,
-        t,
-    );
-    let t = group(
-        &rt,
-        &mut to,
-        "u64 to f32, document 01",
-        "document-count.txt",
-        Operation::Count,
-        t,
-    );
-    let t = group(
-        &rt,
-        &mut to,
-        "u64 to f32, hardware",
-        "hardware-count.txt",
-        Operation::Count,
-        t,
-    );
-    let t = group(&rt, &mut to, "f64 min", "least.txt", Operation::Least, t);
-    let t = group(
-        &rt,
-        &mut to,
-        "f64 max",
-        "greatest.txt",
-        Operation::Greatest,
-        t,
-    );
-    let t = group(
-        &rt,
-        &mut to,
-        "f32 max",
-        "greatest-f32.txt",
-        Operation::GreatestSingle,
-        t,
-    );
-    let t = group(
-        &rt,
-        &mut to,
-        "f64 abs",
-        "absolute.txt",
-        Operation::Absolute,
-        t,
-    );
-    let t = group(
-        &rt,
-        &mut to,
-        "f64 is finite",
-        "finite.txt",
-        Operation::Finite,
-        t,
-    );
-    let t = group(
-        &rt,
-        &mut to,
-        "f32 is finite",
-        "finite-f32.txt",
-        Operation::FiniteSingle,
-        t,
-    );
-    let t = group(
-        &rt,
-        &mut to,
-        "f64 pattern",
-        "pattern.txt",
-        Operation::Pattern,
-        t,
-    );
-    print(&mut to, t.going, "all", t);
+    let groups = [
+        Group::new("fused, published", "published-fused.txt", 3, mul_add),
+        Group::new("fused, document 01", "document-fused.txt", 3, mul_add),
+        Group::new("fused, hardware", "hardware-fused.txt", 3, mul_add),
+        Group::new("f64 to f32, published", "published-narrow.txt", 1, narrow),
+        Group::new("f64 to f32, hardware", "hardware-narrow.txt", 1, narrow),
+        Group::new("u64 to f32, document 01", "document-count.txt", 1, count),
+        Group::new("u64 to f32, hardware", "hardware-count.txt", 1, count),
+        Group::new("f64 min", "least.txt", 2, least),
+        Group::new("f64 max", "greatest.txt", 2, greatest),
+        Group::new("f32 max", "greatest-f32.txt", 2, greatest_single),
+        Group::new("f64 abs", "absolute.txt", 1, absolute),
+        Group::new("f64 is finite", "finite.txt", 1, finite),
+        Group::new("f32 is finite", "finite-f32.txt", 1, finite_single),
+        Group::new("f64 pattern", "pattern.txt", 1, pattern),
+    ];
+    let mut to = Printer::new(rt.stdout(), rt.stderr());
+    let sum = replay_all(&rt, &mut to, &groups);
+    let _ = print(&mut to, "all", sum);
 }

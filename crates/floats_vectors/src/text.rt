@@ -1,60 +1,35 @@
 // Words of hexadecimal digits in a text, each ended by one other byte.
-ghost use Rattle.std.specs.Prelude.{◌≤◌, ◌<◌, length};
-ghost use Rattle.floats_vectors.specs.Progress.{Progress};
+ghost use Rattle.std.specs.Prelude.{◌-◌, ◌≤◌, length};
 
-// A word's value, and where the next one starts.
-#[derive(Clone, Copy)]
-pub(crate) struct Word {
-    pub(crate) value: u64,
-    pub(crate) next: usize,
-}
-
-// The digit's value, or 16 for a byte that is no hexadecimal digit in lower case.
-fn digit(b: u8) -> u64 {
-    if b >= 48 && b <= 57 {
-        (b - 48) as u64
-    } else if b >= 97 && b <= 102 {
-        (b - 87) as u64
-    } else {
-        16
+// The value of a hexadecimal digit in lower case.
+fn digit(byte: u8) -> Option<u64> {
+    match byte {
+        b'0'..=b'9' => Some((byte - b'0') as u64),
+        b'a'..=b'f' => Some((byte - b'a' + 10) as u64),
+        _ => None,
     }
 }
 
-// The word at `at`. Of more than 16 digits the last 16 count.
-pub(crate) fn word_at(s: &[u8], at: usize) -> Word
-    requires { at ≤ length s.now }
-    ensures { Progress at result.next (length s.now) }
+// The value of the first word, and the text behind it. Of more than 16 digits the last 16 count.
+pub(crate) fn first_word(text: &[u8]) -> (u64, &[u8])
+    ensures { length result.1.now ≤ length text.now - 1 }
 {
     let mut value: u64 = 0;
-    let mut i = at;
-    while i < s.len() {
-        let d = digit(s[i]);
-        if d >= 16 {
-            return Word {
-                value: value,
-                next: i + 1,
-            };
+    for (i, byte) in text.iter().enumerate() {
+        match digit(*byte) {
+            Some(d) => value = (value << 4) | d,
+            None => return (value, &text[i + 1..]),
         }
-        value = (value << 4) | d;
-        i += 1;
     }
-    Word {
-        value: value,
-        next: i,
-    }
+    (value, &[])
 }
 
-// The start of the next line.
-pub(crate) fn next_line(s: &[u8], at: usize) -> usize
-    requires { at ≤ length s.now }
-    ensures { Progress at result (length s.now) }
+// The text behind the first line.
+pub(crate) fn behind_line(text: &[u8]) -> &[u8]
+    ensures { length result.now ≤ length text.now - 1 }
 {
-    let mut i = at;
-    while i < s.len() {
-        if s[i] == 10 {
-            return i + 1;
-        }
-        i += 1;
+    match text.iter().position(|byte| *byte == b'\n') {
+        Some(i) => &text[i + 1..],
+        None => &[],
     }
-    i
 }

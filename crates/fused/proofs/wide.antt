@@ -1,5 +1,3 @@
--- Lemmas on numbers of two words.
-mod Order
-mod Columns
-pub mod Shifts
+-- Lemmas on numbers of 128 bits.
+mod Shifts
 mod LeadingBits

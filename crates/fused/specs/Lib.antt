@@ -6,4 +6,4 @@ pub mod Fma
 -- the steps inside
 pub mod Units
 pub mod RoundToOdd
-pub mod TwoWords
+pub mod Wide

@@ -10,7 +10,7 @@
 // x * y + z, rounded once.
 mod multiply_add;
 
-// Numbers of two words.
+// The shifts of its numbers of 128 bits.
 mod wide;
 
 pub use multiply_add::mul_add;

@@ -1,7 +1,7 @@
 -- Boxes in the world: drawable.rs (`WorldBBox`) and bevy_scene.rs (`transform_bbox`, `point_in_bbox`).
 -- A test `a >= b` of the Rust is `le b a` here: the value at the left of the Rust's line is the larger one.
 -- Definitions only. Assumes nothing.
-use Rattle.std.specs.Prelude.{Bool, true, false, not, cond, ◌&&◌, ◌||◌, Float}
+use Rattle.std.specs.Prelude.{Bool, true, false, not, cond, ◌&&◌, ◌||◌, Float, List, [], ◌∷◌, fold, Option, Some, None}
 use Rattle.std.specs.Float.{inf}
 use Rattle.std.specs.Float.Ieee.{lt, le, eq}
 use Rattle.floats.specs.Order.{min_num, max_num}
@@ -20,6 +20,14 @@ bbox a b c d = record { min_x = a; min_y = b; max_x = c; max_y = d }
 
 unfoldable pub boxed : WorldBBox → Bounds
 boxed b = Box b.min_x b.min_y b.max_x b.max_y
+
+abbrev pub bounds_of : Option WorldBBox → Bounds
+bounds_of None = Absent
+bounds_of (Some b) = boxed b
+
+abbrev pub bbox_of : Bounds → Option WorldBBox
+bbox_of Absent = None
+bbox_of (Box a b c d) = Some (bbox a b c d)
 
 -- ---- drawable.rs
 
@@ -51,12 +59,12 @@ include b p =
 abbrev pub nothing : WorldBBox
 nothing = bbox (inf false) (inf false) (inf true) (inf true)
 
+-- the corners, in its order
+abbrev pub corners : WorldBBox → List DVec2
+corners b = vec b.min_x b.min_y ∷ vec b.max_x b.min_y ∷ vec b.max_x b.max_y ∷ vec b.min_x b.max_y ∷ []
+
 unfoldable pub transform_bbox : Placement → WorldBBox → WorldBBox
-transform_bbox t b =
-    let first = include nothing (transform_point2 t (vec b.min_x b.min_y)) in
-    let second = include first (transform_point2 t (vec b.max_x b.min_y)) in
-    let third = include second (transform_point2 t (vec b.max_x b.max_y)) in
-    include third (transform_point2 t (vec b.min_x b.max_y))
+transform_bbox t b = fold (λ placed corner. include placed (transform_point2 t corner)) nothing (corners b)
 
 unfoldable pub point_in_bbox : DVec2 → WorldBBox → Bool
 point_in_bbox p b = le b.min_x p.x && le p.x b.max_x && le b.min_y p.y && le p.y b.max_y

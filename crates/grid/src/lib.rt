@@ -24,6 +24,7 @@ pub struct Grid {
     pub sin: f64,
 }
 
+#[tactic(auto, unfolding(crate::specs::Grid::grid_count))]
 pub fn grid_count(grid: Grid) -> u64
     ensures { result ≡ grid_count grid }
 {
@@ -31,6 +32,7 @@ pub fn grid_count(grid: Grid) -> u64
 }
 
 // How far a member stands from the origin, before the rotation.
+#[tactic(auto, unfolding(crate::specs::Grid::offset))]
 fn offset(grid: Grid, column: u32, row: u32) -> DVec2
     ensures { result ≡ offset grid column row }
 {
@@ -38,32 +40,36 @@ fn offset(grid: Grid, column: u32, row: u32) -> DVec2
     let spacing_y = grid.spacing_y;
     let columns = column as f64;
     let rows = row as f64;
-    DVec2 {
-        x: spacing_x.x * columns + spacing_y.x * rows,
-        y: spacing_x.y * columns + spacing_y.y * rows,
-    }
+    DVec2::new(
+        spacing_x.x * columns + spacing_y.x * rows,
+        spacing_x.y * columns + spacing_y.y * rows,
+    )
 }
 
 // Two fused steps, each rounded once.
+#[tactic(auto, unfolding(crate::specs::Grid::rotated))]
 fn rotated(offset: DVec2, cos: f64, sin: f64) -> DVec2
     ensures { result ≡ rotated offset cos sin }
 {
-    DVec2 {
-        x: fused::mul_add(offset.x, cos, -(offset.y * sin)),
-        y: fused::mul_add(offset.x, sin, offset.y * cos),
-    }
+    DVec2::new(
+        fused::mul_add(offset.x, cos, -(offset.y * sin)),
+        fused::mul_add(offset.x, sin, offset.y * cos),
+    )
 }
 
 // The y axis before it is magnified.
+#[tactic(auto, unfolding(crate::specs::Grid::y_axis))]
 fn y_axis(x_reflection: bool, cos: f64, sin: f64) -> DVec2
     ensures { result ≡ y_axis x_reflection cos sin }
 {
     if x_reflection {
-        return DVec2 { x: sin, y: -cos };
+        DVec2::new(sin, -cos)
+    } else {
+        DVec2::new(-sin, cos)
     }
-    DVec2 { x: -sin, y: cos }
 }
 
+#[tactic(auto, unfolding(crate::specs::Grid::grid_member_transform))]
 pub fn grid_member_transform(grid: Grid, column: u32, row: u32) -> Placement
     ensures { result ≡ grid_member_transform grid column row }
 {
@@ -83,6 +89,7 @@ pub fn grid_member_transform(grid: Grid, column: u32, row: u32) -> Placement
     }
 }
 
+#[tactic(auto, unfolding(crate::specs::Grid::member_bbox))]
 fn member_bbox(grid: Grid, column: u32, row: u32, source_bbox: WorldBBox) -> WorldBBox
     ensures { result ≡ member_bbox grid column row source_bbox }
 {
@@ -94,22 +101,22 @@ fn corners_bbox(grid: Grid, column: u32, row: u32, source_bbox: WorldBBox) -> Wo
     ensures { result ≡ corners_to grid column row source_bbox }
 {
     let first = member_bbox(grid, 0, 0, source_bbox);
-    if column as u64 + row as u64 == 0 {
+    if column == 0 && row == 0 {
         return first;
     }
-    let second = first.merge(member_bbox(grid, 0, row, source_bbox));
-    let third = second.merge(member_bbox(grid, column, 0, source_bbox));
-    third.merge(member_bbox(grid, column, row, source_bbox))
+    first
+        .merge(member_bbox(grid, 0, row, source_bbox))
+        .merge(member_bbox(grid, column, 0, source_bbox))
+        .merge(member_bbox(grid, column, row, source_bbox))
 }
 
 // The box of all members. Without columns or rows there is none.
-#[tactic(auto, unfolding(crate::specs::Grid::reference_bbox))]
+#[tactic(auto, unfolding(crate::specs::Grid::reference_bbox, crate::specs::Grid::corners_bbox))]
 pub fn reference_bbox(grid: Grid, source_bbox: WorldBBox) -> Bounds
     ensures { result ≡ reference_bbox grid source_bbox }
 {
     if grid.columns == 0 || grid.rows == 0 {
         return Bounds::Absent;
     }
-    let bbox = corners_bbox(grid, grid.columns - 1, grid.rows - 1, source_bbox);
-    Bounds::Box(bbox.min_x, bbox.min_y, bbox.max_x, bbox.max_y)
+    Bounds::from(corners_bbox(grid, grid.columns - 1, grid.rows - 1, source_bbox))
 }

@@ -1,16 +1,12 @@
--- Totals that stop at 2^64 − 1, by code path. Assumes nothing.
+-- Totals that stop at 2^64 − 1. Assumes nothing.
 use mathlib.Core.Path.{◌≡◌}
-use Prim.Native.Nat.{ℕ, zero, suc, ◌+◌, ◌≤◌, ◌<◌}
+use Prim.Native.Nat.{ℕ, zero, suc, ◌+◌, ◌≤◌, min}
 use native.Mathlib.Omega.{arith}
 use Rattle.plan_rules.specs.Limits.{max_total}
 use Rattle.plan_rules.specs.Event.{saturate, ◌⊞◌}
 
-pub sum_within : (a b : ℕ) → a + b ≤ max_total → a + b ≡ a ⊞ b
+-- adding 0 leaves a total as it is, and it is at most the largest
+pub saturated : (a b : ℕ) → a ≤ max_total → min (a + b) max_total ≡ a ⊞ b
 unfolding ◌⊞◌ saturate
-sum_within a zero h = omega arith
-sum_within a (suc n) h = omega arith
-
-pub sum_stops : (a b : ℕ) → a ≤ max_total → max_total < a + b → max_total ≡ a ⊞ b
-unfolding ◌⊞◌ saturate
-sum_stops a zero h past = omega arith
-sum_stops a (suc n) h past = omega arith
+saturated a zero h = omega arith
+saturated a (suc n) h = omega arith

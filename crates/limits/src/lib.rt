@@ -19,34 +19,28 @@ const MAX_TEXT_INSTANCES: u64 = 10_000;
 
 pub const MAX_LOAD_PROXIES: u64 = 100_000;
 
-pub const MAX_TOTAL: u64 = 0xffff_ffff_ffff_ffff;
-
-// Totals stop at 2^64 - 1: the Rust's `saturating_add`.
+// Totals stop at 2^64 - 1.
+#[tactic(auto, using(crate::proofs::Totals::saturated))]
 pub fn saturating_add(a: u64, b: u64) -> u64
     ensures { result ≡ a ⊞ b }
 {
-    if a <= MAX_TOTAL - b {
-        return a + b;
-    }
-    MAX_TOTAL
+    a.saturating_add(b)
 }
 
 // `self.plan.stats.detail_cells >= MAX_DETAIL_CELLS`
+#[tactic(auto, unfolding(plan_rules::specs::World::detail_cells_full))]
 pub fn detail_cells_full(plan: ScenePlan) -> bool
     ensures { result ≡ detail_cells_full plan }
 {
-    MAX_DETAIL_CELLS <= plan.detail_cells
+    plan.detail_cells >= MAX_DETAIL_CELLS
 }
 
 // Whether the plan has met a limit on objects, texts or proxies.
+#[tactic(auto, unfolding(plan_rules::specs::World::detail_budget_exhausted))]
 pub fn detail_budget_exhausted(fixed: Fixed, plan: ScenePlan) -> bool
     ensures { (hidden : List ℕ) → result ≡ detail_budget_exhausted (fixed_query fixed hidden) plan }
 {
-    if fixed.object_limit <= plan.detail_objects {
-        return true;
-    }
-    if MAX_TEXT_INSTANCES <= plan.texts {
-        return true;
-    }
-    MAX_LOAD_PROXIES <= plan.load_proxies
+    plan.detail_objects >= fixed.object_limit
+        || plan.texts >= MAX_TEXT_INSTANCES
+        || plan.load_proxies >= MAX_LOAD_PROXIES
 }

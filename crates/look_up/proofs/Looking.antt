@@ -5,8 +5,8 @@ use Prim.Native.Nat.{ℕ, ◌+◌, ◌≤◌, ◌<◌}
 use mathlib.Core.List.{List}
 use lib.ListN.{length, get_or}
 use borrow.Author.Tests.{lt-ltb, le-ltb, eq-eqb, ne_eqb}
-use Rattle.walk.specs.declared.Found.{Found}
-use Rattle.walk.specs.declared.Found.TheVariants.{At, Nothing}
+use Rattle.walk.specs.Find.{Found}
+use Rattle.std.specs.Prelude.{Some, None}
 use Rattle.walk.specs.Find.{find}
 use Rattle.abstract_sheet.specs.Sheet.{read, Kind, kind_number, item_at, item}
 use Rattle.abstract_sheet.proofs.Lookup.{item_read_by}
@@ -17,15 +17,11 @@ use Rattle.look_up.specs.Look.{placed, look_in, look, sheet_with}
 module _ (f : List ℕ) (c : Counts) (kind n : ℕ) where
   -- the place of a number that the sheet has
   module _ (within : n < count_for c kind) (place : ℕ) (at_place : place ≡ start_for c kind + n) where
-    pub look_hit : place < length f → look_in f c kind n ≡ At (get_or f place 0)
+    pub look_hit : place < length f → look_in f c kind n ≡ Some (get_or f place 0)
     unfolding look_in placed
     look_hit h = rw (lt-ltb _ _ within, sym at_place, lt-ltb _ _ h)
 
-    pub look_past : length f ≤ place → look_in f c kind n ≡ Nothing
-    unfolding look_in placed
-    look_past h = rw (lt-ltb _ _ within, sym at_place, le-ltb _ _ h)
-
-  pub look_none : count_for c kind ≤ n → look_in f c kind n ≡ Nothing
+  pub look_none : count_for c kind ≤ n → look_in f c kind n ≡ None
   unfolding look_in
   look_none h = rw (le-ltb _ _ h)
 

@@ -2,8 +2,8 @@
 -- number walks the records".
 -- Definitions only. Assumes nothing.
 use Rattle.std.specs.Prelude.{ℕ, ◌+◌, cond, List, length, get_or, ltb, eqb}
-use Rattle.walk.specs.declared.Found.{Found}
-use Rattle.walk.specs.declared.Found.TheVariants.{At, Nothing}
+use Rattle.walk.specs.Find.{Found}
+use Rattle.std.specs.Prelude.{Some, None}
 use Rattle.walk.specs.Find.{find}
 use Rattle.abstract_sheet.specs.Sheet.{Sheet, sheet_by}
 use Rattle.check_sheet.specs.declared.Counts.{Counts}
@@ -11,11 +11,11 @@ use Rattle.look_up.specs.Places.{count_for, start_for}
 
 -- what stands at a place of a list, if the list has it
 unfoldable pub placed : List ℕ → ℕ → Found
-placed f place = cond (ltb place (length f)) (At (get_or f place 0)) Nothing
+placed f place = cond (ltb place (length f)) (Some (get_or f place 0)) None
 
 -- "by kind and then by number": in the finder of a sheet with these counts
 unfoldable pub look_in : List ℕ → Counts → ℕ → ℕ → Found
-look_in f c kind n = cond (ltb n (count_for c kind)) (placed f (start_for c kind + n)) Nothing
+look_in f c kind n = cond (ltb n (count_for c kind)) (placed f (start_for c kind + n)) None
 
 -- by the walk over the sheet's records where no finder is lent: an empty list is none
 unfoldable pub look : List ℕ → List ℕ → Counts → ℕ → ℕ → Found

@@ -8,9 +8,9 @@ ghost use Rattle.look_up.specs.Places.{count_for, start_for};
 ghost use Rattle.look_up.specs.Look.{look_in, look};
 
 use check_sheet::Counts;
-use walk::Found;
 
 // How many records there are of a kind of 1 to 5.
+// Kept: a kind is a u16 here and in `look_up`, which answer for each; an enum of the five would ask more of callers.
 #[tactic(auto, unfolding(crate::specs::Places::count_for))]
 pub fn count_for(c: Counts, kind: u16) -> u32
     ensures { result ≡ count_for c kind }
@@ -44,23 +44,24 @@ pub fn start_for(c: Counts, kind: u16) -> usize
 }
 
 // The offset that the finder of a sheet with these counts has for the record of a kind with a number.
-fn look_in(finder: &[u32], c: Counts, kind: u16, number: u32) -> Found
+#[tactic(auto, unfolding(crate::specs::Look::look_in, crate::specs::Look::placed))]
+fn look_in(finder: &[u32], c: Counts, kind: u16, number: u32) -> Option<usize>
     ensures { result ≡ look_in finder.now c kind number }
 {
-    if number < count_for(c, kind) {
-        let place = start_for(c, kind) + number as usize;
-        if place < finder.len() {
-            return Found::At(finder[place] as usize);
-        }
+    if number >= count_for(c, kind) {
+        return None;
     }
-    Found::Nothing
+    let place = start_for(c, kind) + number as usize;
+    let at = finder.get(place)?;
+    Some(*at as usize)
 }
 
 // The offset of the record of a kind with a number: one function for the five kinds. An empty finder is none.
-pub fn look_up(sheet: &[u8], finder: &[u32], c: Counts, kind: u16, number: u32) -> Found
+#[tactic(auto, unfolding(crate::specs::Look::look))]
+pub fn look_up(sheet: &[u8], finder: &[u32], c: Counts, kind: u16, number: u32) -> Option<usize>
     ensures { result ≡ look sheet.now finder.now c kind number }
 {
-    if finder.len() == 0 {
+    if finder.is_empty() {
         return walk::find(sheet, kind, number);
     }
     look_in(finder, c, kind, number)

@@ -4,7 +4,7 @@
 --     Replies          the reply to an input, by code path
 --     Parts            a part of a text
 --     Texts            the text, part behind part
---     Buffers          buffers of zeros, for programs
+--     Printing         prints one after the other
 --     Lines            a line of each kind of record, computed
 --     WorkedExample    document 01's worked example, from its bytes to its text
 -- Assumes nothing.
@@ -13,6 +13,6 @@ pub mod OwnFinder
 pub mod Replies
 pub mod Parts
 pub mod Texts
-pub mod Buffers
+pub mod Printing
 pub mod Lines
 pub mod WorkedExample

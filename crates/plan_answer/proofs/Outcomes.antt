@@ -9,11 +9,10 @@ use lib.ListN.{length, drop, replicate, length-append}
 use lib.Dec.{leb}
 use Rattle.fields.proofs.Writing.{length-record_bytes}
 use Rattle.abstract_sheet.specs.Sheet.{Sheet, sheet_of}
-use Rattle.check_sheet.specs.declared.Checked.{Checked}
-use Rattle.check_sheet.specs.declared.Checked.TheVariants as checked
-use Rattle.check_sheet.specs.Check.{check_sheet}
-use Rattle.check_sheet.proofs.Numbered.{Numbered, refused, sheet_numbered}
-use Rattle.plan_rules.specs.declared.Answer.TheVariants.{Refused, NoRoom}
+use Rattle.std.specs.Prelude.{Ok, Err}
+use Rattle.check_sheet.specs.Check.{Checked, check_sheet}
+use Rattle.check_sheet.proofs.Numbered.{numbered}
+use Rattle.plan_rules.specs.declared.refusal.PlanError.TheVariants.{NoRoom}
 use Rattle.plan_rules.specs.declared.ScenePlan.{ScenePlan}
 use Rattle.plan_rules.specs.Event.{Event, fields_of, encode, empty_plan, totals}
 use Rattle.plan_rules.specs.World.{Query, world}
@@ -23,7 +22,7 @@ use Rattle.plan_rules.specs.Plan.{visit_root, plan}
 use Rattle.plan_rules.specs.Tape.{no_tag, note, tape}
 use Rattle.plan_rules.specs.Limits.{max_depth}
 use Rattle.plan_rules.specs.Questions.{query_refusal}
-use Rattle.plan_rules.specs.Outcome.{Outcome, outcome, fresh_plan, tape_of, delivered, sound_outcome, checked_outcome_up_to, outcome_up_to, outcome_of}
+use Rattle.plan_rules.specs.Outcome.{Outcome, outcome, refused, fresh_plan, tape_of, delivered, sound_outcome, checked_outcome_up_to, outcome_up_to, outcome_of}
 use Rattle.plan_rules.proofs.OutcomeTheorem.{query_refused, query_passed}
 
 -- ---- a tape is not empty: it ends with its totals
@@ -51,10 +50,10 @@ told_if : (b : Bool) {x y : Outcome} → Told x → Told y → Told (cond b x y)
 told_if true p q = p
 told_if false p q = q
 
-told_refused : (number offset : ℕ) (o k m : List ℕ) → 0 < number → Told (outcome (Refused number offset) o k m)
+told_refused : (number offset : ℕ) (o k m : List ℕ) → 0 < number → Told (refused number offset o k m)
 told_refused number offset o k m h = record { planned = λ e. absurd (omega arith); within = λ e. absurd (omega arith) }
 
-told_no_room : (n : ℕ) (o k m : List ℕ) → Told (outcome (NoRoom n) o k m)
+told_no_room : (n : ℕ) (o k m : List ℕ) → Told (outcome (Err (NoRoom n)) o k m)
 told_no_room n o k m = record { planned = λ e. absurd (omega arith); within = λ e. absurd (omega arith) }
 
 module _ (S : Sheet) (cells : ℕ) (q : Query) (o k m : List ℕ) where
@@ -78,10 +77,10 @@ module _ (S : Sheet) (cells : ℕ) (q : Query) (o k m : List ℕ) where
       by zero e = subst Told (sym (query_passed max_depth S cells q o k m (sym e))) told_delivered
       by (suc n) e = subst Told (sym (query_refused max_depth S cells q o k m e (λ z. omega arith))) (told_refused (suc n) 0 o k m (omega arith))
 
-told_checked : (c : Checked) (S : Sheet) (q : Query) (o k m : List ℕ) → Numbered c → Told (checked_outcome_up_to max_depth c S q o k m)
-told_checked (checked.Refused number offset) S q o k m (refused h most) = told_refused number offset o k m h
-told_checked (checked.Sound counts) S q o k m h = told_sound S counts.cells q o k m
+told_checked : (c : Checked) (S : Sheet) (q : Query) (o k m : List ℕ) → Told (checked_outcome_up_to max_depth c S q o k m)
+told_checked (Err x) S q o k m = told_refused _ _ o k m (numbered x).positive
+told_checked (Ok counts) S q o k m = told_sound S counts.cells q o k m
 
 pub told : (s : List ℕ) (q : Query) (o k m : List ℕ) → Told (outcome_of s q o k m)
 unfolding outcome_up_to
-told s q o k m = told_checked (check_sheet s) (sheet_of s) q o k m (sheet_numbered s)
+told s q o k m = told_checked (check_sheet s) (sheet_of s) q o k m

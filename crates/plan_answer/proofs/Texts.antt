@@ -5,8 +5,8 @@ use lib.Seq.{length-take-le}
 use Rattle.walk.proofs.Offsets.{offsets_end}
 use Rattle.plan_text.specs.Text.{lines_at, lines_from}
 use Rattle.plan_text.specs.declared.lines.Lines.{Lines}
-use Rattle.plan_answer.specs.declared.Printed.{Printed}
-use Rattle.plan_answer.specs.declared.Printed.TheVariants.{Tape, Refused, NoQuery, TooLong, Unreadable}
+use Rattle.std.specs.Prelude.{Result, Ok, Err}
+use Rattle.plan_answer.specs.declared.no_plan.NoPlan.{NoPlan}
 use Rattle.plan_answer.specs.Text.{tape_end, text_end, text_from, line_from}
 use Rattle.plan_answer.specs.Part.{PutPart}
 
@@ -19,17 +19,14 @@ unfolding line_from
 line_end line at h = grind arith
 
 -- behind its end a text has nothing
-text_ends : (p : Printed) (tape : List ℕ) (at : ℕ) → tape_end p ≤ length tape → text_end p ≤ at → text_from p tape at ≡ []
-text_ends (Tape n) tape at h e = lines_end (take n tape) at (omega (arith, length-take-le n tape h))
-text_ends (Refused number offset) tape at h e = line_end _ at e
-text_ends NoQuery tape at h e = line_end _ at e
-text_ends TooLong tape at h e = line_end _ at e
-text_ends Unreadable tape at h e = line_end _ at e
+text_ends : (p : Result ℕ NoPlan) (tape : List ℕ) (at : ℕ) → tape_end p ≤ length tape → text_end p ≤ at → text_from p tape at ≡ []
+text_ends (Ok n) tape at h e = lines_end (take n tape) at (omega (arith, length-take-le n tape h))
+text_ends (Err why) tape at h e = line_end _ at e
 
 -- so what was put up to there is the whole
-pub whole_text : (p : Printed) (tape bytes : List ℕ) (at : ℕ) → tape_end p ≤ length tape → text_end p ≤ at → bytes ++ text_from p tape at ≡ text_from p tape 0 → bytes ≡ text_from p tape 0
+pub whole_text : (p : Result ℕ NoPlan) (tape bytes : List ℕ) (at : ℕ) → tape_end p ≤ length tape → text_end p ≤ at → bytes ++ text_from p tape at ≡ text_from p tape 0 → bytes ≡ text_from p tape 0
 whole_text p tape bytes at h e all = sym (append-nil bytes) ∙ sym (ap (λ (l : List ℕ). bytes ++ l) (text_ends p tape at h e)) ∙ all
 
 -- and a part goes on where the parts before it ended
-pub part_goes_on : {p : Printed} {tape d e : List ℕ} {from : ℕ} {r : Lines} (bytes : List ℕ) → PutPart p tape from d e r → bytes ++ text_from p tape from ≡ text_from p tape 0 → (bytes ++ take r.end e) ++ text_from p tape r.next ≡ text_from p tape 0
+pub part_goes_on : {p : Result ℕ NoPlan} {tape d e : List ℕ} {from : ℕ} {r : Lines} (bytes : List ℕ) → PutPart p tape from d e r → bytes ++ text_from p tape from ≡ text_from p tape 0 → (bytes ++ take r.end e) ++ text_from p tape r.next ≡ text_from p tape 0
 part_goes_on {p} {tape} {d} {e} {from} {r} bytes part all = append_assoc bytes (take r.end e) (text_from p tape r.next) ∙ ap (λ (l : List ℕ). bytes ++ l) part.all ∙ all

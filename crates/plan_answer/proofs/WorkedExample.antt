@@ -4,7 +4,8 @@ use mathlib.Core.Path.{◌≡◌, refl}
 use mathlib.Core.List.{List, [], ◌∷◌, ◌++◌}
 use Prim.Native.Nat.{ℕ}
 use lib.ListN.{replicate, take}
-use Rattle.streams.specs.declared.input.Input.TheVariants.{TooLong, Unreadable}
+use Rattle.std.specs.Prelude.{Err}
+use Rattle.streams.specs.declared.input.ReadError.TheVariants.{TooLong, Unreadable}
 use Rattle.fields.specs.Field.{uint, f64, record_bytes}
 use Rattle.abstract_sheet.proofs.Examples.{worked_text, worked_cell, worked_sheet}
 use Rattle.plan_text.specs.Ascii.{ascii}
@@ -43,9 +44,9 @@ unfolding opened_query opened_text reply_of
 no_query = refl
 
 -- "Input beyond the program's buffers .. prints `too long` before all else"
-pub too_long : (b : List ℕ) → (reply_of_input b TooLong [] [] [] [] []).text ≡ ascii "too long\n"
+pub too_long : (b : List ℕ) → (reply_of_input b (Err TooLong) [] [] [] [] []).text ≡ ascii "too long\n"
 too_long b = refl
 
 -- a plan is never printed of an input that could not be read to its end
-pub unreadable : (b f h o k m : List ℕ) → (reply_of_input b Unreadable f h o k m).text ≡ ascii "unreadable\n"
+pub unreadable : (b f h o k m : List ℕ) → (reply_of_input b (Err Unreadable) f h o k m).text ≡ ascii "unreadable\n"
 unreadable b f h o k m = refl

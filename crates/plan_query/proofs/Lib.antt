@@ -1,6 +1,6 @@
 -- Facts about the query.
 --     Layers       hidden layers, copied one after the other
---     Reading      the ends of a reading of the query
+--     Reading      what those have who go on with the query
 --     Examples     what is a whole query, computed
 --     Opened       one name that opens the query, to compute with it
 -- Assumes nothing.

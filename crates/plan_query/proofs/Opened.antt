@@ -2,8 +2,8 @@
 -- Assumes nothing.
 use Prim.Native.Nat.{ℕ}
 use Rattle.fields.specs.Field.{uint_at, uint_bytes, f64_at}
-use Rattle.plan_query.specs.Query.{whole_query, options_at, hidden_count, layers_from, hidden_layers, query_record, read_query}
+use Rattle.plan_query.specs.Query.{whole_query, options_at, layers_from, read_query}
 
 unfoldable pub opened_query : ℕ
-unfolding uint_at uint_bytes f64_at whole_query options_at hidden_count layers_from hidden_layers query_record read_query
+unfolding uint_at uint_bytes f64_at whole_query options_at layers_from read_query
 opened_query = 0

@@ -21,15 +21,15 @@ pub struct QueryRecord {
     pub sheet: usize,
 }
 
-// What the input begins with.
-#[derive(Clone, Copy)]
-pub enum FirstRecord {
-    Query(QueryRecord),
-    NoQuery,
+// Why there is no query to answer.
+#[derive(Clone, Copy, Debug, PartialEq, Eq)]
+pub enum QueryError {
+    NoQuery, // the first record is no whole query
     TooLong, // more hidden layers than are lent
 }
 
 // Whether the first record is a whole query.
+#[tactic(auto, using(std::proofs::lemmas::Bool::Decides::nat_tests), unfolding(crate::specs::Query::whole_query))]
 fn is_query(input: &[u8]) -> bool
     ensures { result ≡ whole_query input.now }
 {
@@ -49,6 +49,7 @@ fn is_query(input: &[u8]) -> bool
     fields::u16_at(input, fields::KIND) == QUERY_KIND
 }
 
+#[tactic(auto, unfolding(crate::specs::Query::options_at))]
 fn options_at(input: &[u8]) -> SceneOptions
     ensures { result ≡ options_at input.now }
 {
@@ -71,27 +72,26 @@ fn copy_hidden(input: &[u8], count: usize, hidden: &mut [u32])
     requires count_bound { count < 1073741824 }
     ensures { hidden.new ≡ sets hidden.old 0 (layers_from count input.now query_length) }
 {
-    let mut i = 0;
-    while i < count {
+    for i in 0..count {
         hidden[i] = fields::u32_at(input, QUERY_LENGTH + 4 * i);
-        i += 1;
     }
 }
 
 // Reads the query, and copies its hidden layers to the start of those lent.
-pub fn read_query(input: &[u8], hidden: &mut [u32]) -> FirstRecord
+#[tactic(auto, using(std::proofs::lemmas::Bool::Decides::nat_tests), unfolding(crate::specs::Query::whole_query, crate::specs::Query::read_query))]
+pub fn read_query(input: &[u8], hidden: &mut [u32]) -> Result<QueryRecord, QueryError>
     ensures { (result, hidden.new) ≡ read_query input.now hidden.old }
 {
     if !is_query(input) {
-        return FirstRecord::NoQuery;
+        return Err(QueryError::NoQuery);
     }
     let length = fields::u32_at(input, 0) as usize;
     let count = (length - QUERY_LENGTH) / 4;
     if hidden.len() < count {
-        return FirstRecord::TooLong;
+        return Err(QueryError::TooLong);
     }
     copy_hidden(input, count, hidden);
-    FirstRecord::Query(QueryRecord {
+    Ok(QueryRecord {
         options: options_at(input),
         hidden: count,
         sheet: length,
@@ -99,6 +99,7 @@ pub fn read_query(input: &[u8], hidden: &mut [u32]) -> FirstRecord
 }
 
 // Where the sheet begins: behind the query, or at the start of an input without one.
+#[tactic(auto, using(std::proofs::lemmas::Bool::Decides::nat_tests), unfolding(crate::specs::Query::whole_query, crate::specs::Query::sheet_at))]
 pub fn sheet_at(input: &[u8]) -> usize
     ensures value { result ≡ sheet_at input.now }
     ensures upper_bound { result ≤ length input.now }

@@ -9,11 +9,10 @@ use lib.ListN.{length, drop}
 use lib.Dec.{leb}
 use Rattle.abstract_sheet.specs.Sheet.{Sheet, sheet_of}
 use Rattle.check_sheet.specs.declared.Counts.{Counts}
-use Rattle.check_sheet.specs.declared.Checked.{Checked}
-use Rattle.check_sheet.specs.declared.Checked.TheVariants as checked
-use Rattle.check_sheet.specs.Check.{check_sheet}
-use Rattle.check_sheet.proofs.Numbered.{Numbered, refused, sheet_numbered}
-use Rattle.plan_rules.specs.declared.Answer.TheVariants.{Planned, NoRoom}
+use Rattle.std.specs.Prelude.{Ok, Err}
+use Rattle.check_sheet.specs.Check.{Checked, check_sheet}
+use Rattle.check_sheet.proofs.Numbered.{numbered}
+use Rattle.plan_rules.specs.declared.refusal.PlanError.TheVariants as error
 use Rattle.plan_rules.specs.Limits.{max_depth}
 use Rattle.plan_rules.specs.World.{Query}
 use Rattle.plan_rules.specs.Scratch.{counts_named, marks_named}
@@ -24,12 +23,12 @@ use Rattle.plan_rules.proofs.OutcomeTheorem.{query_passed, accepted_passed}
 -- ---- question 12
 
 -- an outcome with number 0 is no refusal
-unrefused : (b : Bool) (x : Outcome) (n : ℕ) (o k m : List ℕ) → (cond b x (outcome (NoRoom n) o k m)).number ≡ 0 → cond b x (outcome (NoRoom n) o k m) ≡ x
+unrefused : (b : Bool) (x : Outcome) (n : ℕ) (o k m : List ℕ) → (cond b x (outcome (Err (error.NoRoom n)) o k m)).number ≡ 0 → cond b x (outcome (Err (error.NoRoom n)) o k m) ≡ x
 unrefused true x n o k m e = refl
 unrefused false x n o k m e = absurd (let y : ⊥ = omega arith in y)
 
 fitted : (t : List ℕ) (nk nm : ℕ) (o k m : List ℕ) → (delivered t nk nm o k m).number ≡ 0
-    → delivered t nk nm o k m ≡ outcome (Planned (length t)) (t ++ drop (length t) o) (zeroed nk k) (zeroed nm m)
+    → delivered t nk nm o k m ≡ outcome (Ok (length t)) (t ++ drop (length t) o) (zeroed nk k) (zeroed nm m)
 unfolding delivered
 fitted t nk nm o k m e = unrefused (leb (length t) (length o)) _ _ _ _ _ e
 
@@ -39,11 +38,11 @@ fitted t nk nm o k m e = unrefused (leb (length t) (length o)) _ _ _ _ _ e
 abbrev planned_outcome : Sheet → ℕ → Query → List ℕ → List ℕ → List ℕ → Outcome
 planned_outcome S cells q o k m =
     let t = tape_of S cells q in
-    outcome (Planned (length t)) (t ++ drop (length t) o) (zeroed (counts_named cells q.depth) k) (zeroed (marks_named cells q.depth) m)
+    outcome (Ok (length t)) (t ++ drop (length t) o) (zeroed (counts_named cells q.depth) k) (zeroed (marks_named cells q.depth) m)
 
 pub record AcceptedOutcome (s : List ℕ) (q : Query) (o k m : List ℕ) : Type 0 where
   pub counts : Counts
-  pub sound : check_sheet s ≡ checked.Sound counts
+  pub sound : check_sheet s ≡ Ok counts
   pub passed : query_refusal q.view q.zoom q.depth counts.cells (length k) (length m) ≡ 0
   pub planned : outcome_of s q o k m ≡ planned_outcome (sheet_of s) counts.cells q o k m
 
@@ -54,11 +53,11 @@ sound_planned S cells q o k m e =
 
 pub accepted_outcome : (s : List ℕ) (q : Query) (o k m : List ℕ) → (outcome_of s q o k m).number ≡ 0 → AcceptedOutcome s q o k m
 unfolding outcome_up_to
-accepted_outcome s q o k m e = by (check_sheet s) refl (sheet_numbered s) e
+accepted_outcome s q o k m e = by (check_sheet s) refl e
   where
-    by : (x : Checked) → check_sheet s ≡ x → Numbered x → (checked_outcome_up_to max_depth x (sheet_of s) q o k m).number ≡ 0 → AcceptedOutcome s q o k m
-    by (checked.Refused n at) h (refused above most) e = let none : n ≡ 0 = e in absurd (let y : ⊥ = omega arith in y)
-    by (checked.Sound c) h f e =
+    by : (x : Checked) → check_sheet s ≡ x → (checked_outcome_up_to max_depth x (sheet_of s) q o k m).number ≡ 0 → AcceptedOutcome s q o k m
+    by (Err x) h e = absurd (let y : ⊥ = omega (arith, (numbered x).positive) in y)
+    by (Ok c) h e =
         record {
           counts = c;
           sound = h;

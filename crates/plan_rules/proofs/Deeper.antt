@@ -10,16 +10,14 @@ use lib.ListN.{length}
 use lib.Dec.{leb, eqb}
 use borrow.Author.Tests.{le-leb, lt-leb}
 use Rattle.abstract_sheet.specs.Sheet.{Sheet, sheet_of}
-use Rattle.check_sheet.specs.declared.Checked.{Checked}
-use Rattle.check_sheet.specs.declared.Checked.TheVariants as checked
-use Rattle.check_sheet.specs.Check.{check_sheet}
-use Rattle.check_sheet.proofs.Numbered.{Numbered, refused, sheet_numbered}
-use Rattle.plan_rules.specs.declared.Answer.TheVariants.{Refused}
+use Rattle.std.specs.Prelude.{Ok, Err}
+use Rattle.check_sheet.specs.Check.{Checked, check_sheet}
+use Rattle.check_sheet.proofs.Numbered.{numbered}
 use Rattle.plan_rules.specs.Limits.{max_depth}
 use Rattle.plan_rules.specs.World.{Query}
 use Rattle.plan_rules.specs.Scratch.{counts_named, marks_named}
 use Rattle.plan_rules.specs.Questions.{view_ok, zoom_ok, depth_ok, has_scratch, query_refusal_up_to}
-use Rattle.plan_rules.specs.Outcome.{Outcome, outcome, tape_of, delivered, sound_outcome_up_to, checked_outcome_up_to, outcome_up_to}
+use Rattle.plan_rules.specs.Outcome.{Outcome, refused, tape_of, delivered, sound_outcome_up_to, checked_outcome_up_to, outcome_up_to}
 use Rattle.plan_rules.specs.Deeper.{former_max_depth, FormerAnswersStay, OnlyDeeperIsTooDeep, DeeperIsTooDeep, DeepIsAnswered, DeepNeedsScratch}
 use Rattle.plan_rules.proofs.OutcomeTheorem.{sheet_sound, query_refused, query_passed}
 
@@ -33,15 +31,15 @@ module _ (a b : ℕ) (q : Query) (o k m : List ℕ) (below-a : q.depth ≤ a) (b
   pub same_sound : (S : Sheet) (cells : ℕ) → sound_outcome_up_to a S cells q o k m ≡ sound_outcome_up_to b S cells q o k m
   unfolding sound_outcome_up_to
   same_sound S cells =
-      ap (λ (n : ℕ). cond (eqb n 0) (delivered (tape_of S cells q) (counts_named cells q.depth) (marks_named cells q.depth) o k m) (outcome (Refused n 0) o k m)) (same_refusal cells)
+      ap (λ (n : ℕ). cond (eqb n 0) (delivered (tape_of S cells q) (counts_named cells q.depth) (marks_named cells q.depth) o k m) (refused n 0 o k m)) (same_refusal cells)
 
   same_outcome : (s : List ℕ) → outcome_up_to a s q o k m ≡ outcome_up_to b s q o k m
   unfolding outcome_up_to
   same_outcome s = by (check_sheet s)
     where
       by : (c : Checked) → checked_outcome_up_to a c (sheet_of s) q o k m ≡ checked_outcome_up_to b c (sheet_of s) q o k m
-      by (checked.Refused number offset) = refl
-      by (checked.Sound counts) = same_sound (sheet_of s) counts.cells
+      by (Err e) = refl
+      by (Ok counts) = same_sound (sheet_of s) counts.cells
 
 pub former_answers_stay : FormerAnswersStay
 former_answers_stay s q o k m h = same_outcome max_depth former_max_depth q o k m (omega (arith, h)) h s
@@ -77,11 +75,11 @@ module _ (deepest : ℕ) (q : Query) (o k m : List ℕ) (below : q.depth ≤ dee
 
   not_10 : (s : List ℕ) → Not10 (outcome_up_to deepest s q o k m).number
   unfolding outcome_up_to
-  not_10 s = by (check_sheet s) (sheet_numbered s)
+  not_10 s = by (check_sheet s)
     where
-      by : (c : Checked) → Numbered c → Not10 (checked_outcome_up_to deepest c (sheet_of s) q o k m).number
-      by (checked.Refused number offset) (refused above most) = λ (e : number ≡ 10). omega arith
-      by (checked.Sound counts) n = sound_not_10 (sheet_of s) counts.cells
+      by : (c : Checked) → Not10 (checked_outcome_up_to deepest c (sheet_of s) q o k m).number
+      by (Err x) = λ ten. omega (arith, (numbered x).most)
+      by (Ok counts) = sound_not_10 (sheet_of s) counts.cells
 
 pub only_deeper_is_too_deep : OnlyDeeperIsTooDeep
 only_deeper_is_too_deep s q o k m e = lt_of_not-le (λ (below : q.depth ≤ max_depth). not_10 max_depth q o k m below s e)

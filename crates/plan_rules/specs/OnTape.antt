@@ -1,7 +1,7 @@
 -- The rules at the code's end: no tag, bytes on the lent tape, and what a plan is given, by one name.
 -- The planner's contracts cite these names: what a call leaves equals the definition of the same name. No crate above applies the rules to `no_tag` and `on_tape`.
 -- Definitions only; rests on the rules and on what a reference denotes.
-use Rattle.std.specs.Prelude.{◌≡◌, Bool, List, ℕ, zero, suc}
+use Rattle.std.specs.Prelude.{◌≡◌, List, ℕ, zero, suc, Result, Ok, Err}
 use Rattle.std.proofs.Math.Option.{Option}
 use Rattle.std.specs.Borrow.{Bor, MutBor}
 use Rattle.geometry.specs.declared.bbox.WorldBBox.{WorldBBox}
@@ -13,12 +13,14 @@ use Rattle.abstract_sheet.specs.Sheet.{NodeRecord, CellRecord, Sheet}
 use Rattle.look_up.specs.Look.{sheet_with}
 use Rattle.plan_rules.specs.declared.ScenePlan.{ScenePlan}
 use Rattle.plan_rules.specs.declared.SceneOptions.{SceneOptions}
-use Rattle.plan_rules.specs.declared.Answer.{Answer}
+use Rattle.plan_rules.specs.Outcome.{Answer}
 use Rattle.plan_rules.specs.declared.Fixed.{Fixed}
+use Rattle.plan_rules.specs.declared.Halted.{Halted}
+use Rattle.plan_rules.specs.declared.Given as lends
 use Rattle.plan_rules.specs.declared.Reason.{Reason}
 use Rattle.plan_rules.specs.Limits.{max_scene_objects}
 use Rattle.plan_rules.specs.Event.{Event}
-use Rattle.plan_rules.specs.World.{Query, query_of, World, world, Flow, go, flow, each}
+use Rattle.plan_rules.specs.World.{Query, query_of, World, world, Flow, go, halt, each}
 use Rattle.plan_rules.specs.DrawUnits.{Units}
 use Rattle.plan_rules.specs.Push as push
 use Rattle.plan_rules.specs.Visit as visit
@@ -45,6 +47,10 @@ given_bytes f s finder hidden = record { sheet = sheet_with s finder f.counts; h
 abbrev pub given : (f : Fixed) → Bor (List ℕ) → Bor (List ℕ) → Bor (List ℕ) → Given f
 given f sheet finder hidden = given_bytes f sheet.now finder.now hidden.now
 
+-- the same of what the code passes on by one name
+abbrev pub given_of : (g : lends.Given) → Given g.fixed
+given_of g = given g.fixed g.sheet g.finder g.hidden
+
 -- ---- what a call is handed, and what it leaves
 
 abbrev pub Output : Type 0
@@ -58,9 +64,14 @@ lent s out counts marks = world s out.now counts.now marks.now
 abbrev pub Leaves : ScenePlan → MutBor (List ℕ) → (Output → Output) → ScenePlan → MutBor (List ℕ) → Type 0
 Leaves r out definition s before = (k m : List ℕ) → world r out.now k m ≡ definition (world s before.now k m)
 
+-- a flow by the code's answer: whether the visit goes on, and from which plan
+abbrev pub flow_of : {A : Type 0} → Result ScenePlan Halted → (ScenePlan → World A) → Flow A
+flow_of (Ok s) w = go (w s)
+flow_of (Err h) w = halt (w h.plan)
+
 -- the same of a call that also answers whether the visit goes on
-abbrev pub LeavesFlow : Bool → ScenePlan → MutBor (List ℕ) → (Output → Flow (List ℕ)) → ScenePlan → MutBor (List ℕ) → Type 0
-LeavesFlow whole r out definition s before = (k m : List ℕ) → flow whole (world r out.now k m) ≡ definition (world s before.now k m)
+abbrev pub LeavesFlow : Result ScenePlan Halted → MutBor (List ℕ) → (Output → Flow (List ℕ)) → ScenePlan → MutBor (List ℕ) → Type 0
+LeavesFlow r out definition s before = (k m : List ℕ) → flow_of r (λ p. world p out.now k m) ≡ definition (world s before.now k m)
 
 -- ---- a whole call
 

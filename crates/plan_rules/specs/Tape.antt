@@ -4,7 +4,7 @@
 use Rattle.std.specs.Prelude.{◌≡◌, cond, List, [], ◌∷◌, ◌++◌, ℕ, ◌+◌, length, leb}
 use Rattle.std.proofs.lemmas.List.Edits.{sets}
 use Rattle.fields.specs.Field.{Field, widths, record_bytes}
-use Rattle.plan_rules.specs.Event.{Event, fields_of, encode, Step, ◌⊞◌, amounts}
+use Rattle.plan_rules.specs.Event.{Event, fields_of, encode, Step, ◌⊞◌}
 
 -- ---- the code's end: no tag, and bytes
 
@@ -19,9 +19,9 @@ put_record o at (f ∷ fs) = cond (leb (at + widths (f ∷ fs)) (length o)) (set
 unfoldable pub on_tape : Unit {0} → Event → ℕ → List ℕ → List ℕ
 on_tape t e at o = put_record o at (fields_of e)
 
--- What a writer of an event's record leaves: the record if it fits, and the tape's new end, which grows all the same.
-abbrev pub Written : Event → List ℕ → ℕ → List ℕ → ℕ → Type 0
-Written e o at o' end = (o' ≡ put_record o at (fields_of e)) × (end ≡ at ⊞ (amounts e).tape_end)
+-- What a writer of a record leaves: the record if it fits, and the tape's new end, which grows all the same.
+abbrev pub Written : List Field → List ℕ → ℕ → List ℕ → ℕ → Type 0
+Written fs o at o' end = (o' ≡ put_record o at fs) × (end ≡ at ⊞ widths fs)
 
 -- ---- the proofs' end: every event with its tag, the newest first
 

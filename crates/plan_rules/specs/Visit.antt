@@ -2,7 +2,7 @@
 -- Document 01: "Visiting follows `visit_cell`, `visit_reference` and `visit_source`, where depth falls by one."
 -- Only the visit of a reference recurses, on the depth; the other two are given how a reference is visited.
 -- Definitions only; rests on the definitions of geometry, grid and screen, the abstract sheet, `DrawUnits` and `Push`.
-use Rattle.std.specs.Prelude.{false, not, cond, ℕ, zero, suc, ◌/◌, max, eqb}
+use Rattle.std.specs.Prelude.{false, not, cond, Some, None, ℕ, zero, suc, ◌/◌, max, eqb}
 use Rattle.std.proofs.Math.Option.{Option, none, some}
 use Rattle.geometry.specs.declared.bbox.WorldBBox.{WorldBBox}
 use Rattle.geometry.specs.declared.bbox.Bounds.{Bounds}
@@ -13,7 +13,7 @@ use Rattle.screen.specs.declared.CollapseTest.TheVariants as test
 use Rattle.geometry.specs.Placement.{◌·◌}
 use Rattle.geometry.specs.Bbox.{transform_bbox, overlaps, source_is_degenerate, transform_bounds, is_outside, bbox}
 use Rattle.grid.specs.Grid.{grid_count, grid_member_transform, reference_bbox}
-use Rattle.screen.specs.Screen.{reference_screen_size, is_subpixel, collapse_test, collapses}
+use Rattle.screen.specs.Screen.{FirstMet, reference_screen_size, is_subpixel, collapse_test, collapses}
 use Rattle.records.specs.declared.PreparedSource.{PreparedSource}
 use Rattle.records.specs.declared.PreparedSource.TheVariants.{Geometry, Text, Node, Reference, Cell}
 use Rattle.records.specs.declared.PreparedReference.{PreparedReference}
@@ -33,13 +33,17 @@ use Rattle.plan_rules.specs.Push.{say, add_load, add_load_if_boxed, push_geometr
 unfoldable pub source_units : ℕ → ℕ → ℕ
 source_units units count = max (cond (eqb count 0) 1 (units / count)) 1
 
--- the reason that the first test met gives. (A reference that passes them all gets no box.)
+-- the reason that the first test met gives
 abbrev pub collapse_reason : CollapseTest → Reason
-collapse_reason test.Passed = reason.DenseReference
 collapse_reason test.Depth = reason.DepthAtMostOne
 collapse_reason test.Side = reason.SmallSide
 collapse_reason test.Grid = reason.LargeGrid
 collapse_reason test.Density = reason.DenseReference
+
+-- that of the box. (A reference that passes all the tests gets none.)
+abbrev pub box_reason : FirstMet → Reason
+box_reason None = reason.DenseReference
+box_reason (Some test) = collapse_reason test
 
 module _ {P A : Type 0} (enter : Step → P → P) (emit : P → Event → ℕ → A → A) where
   -- `push_node` was `false`: the cell's box is added, and the visit of the cell is over
@@ -132,7 +136,7 @@ module _ {P A : Type 0} (enter : Step → P → P) (emit : P → Event → ℕ �
           cond (detail_budget_exhausted q w.state) (halt (add_load enter emit t reason.OtherLimit (label r.source) world_box w))
           (cond (not (overlaps box q.view)) (go (say enter emit here culled_reference w))
           (cond (is_subpixel size) (go (say enter emit here (skipped_member (source_is_degenerate sourceBox) box) w))
-          (cond (collapses test) (go (add_load enter emit here (collapse_reason test) (label r.source) box w))
+          (cond (collapses test) (go (add_load enter emit here (box_reason test) (label r.source) box w))
           (halt_with_member t here (label r.source) box world_box (visit here r.source placement w)))))
 
       unfoldable pub column_step : ℕ → ℕ → World A → Flow A
@@ -144,7 +148,7 @@ module _ {P A : Type 0} (enter : Step → P → P) (emit : P → Event → ℕ �
           let size = reference_screen_size world_box q.zoom (source_is_degenerate sourceBox) in
           let test = collapse_test size.width size.height (grid_count r.grid) u.units depth false in
           cond (collapses test)
-          (add_load enter emit t (collapse_reason test) (label r.source) world_box (with_scratch u w))
+          (add_load enter emit t (box_reason test) (label r.source) world_box (with_scratch u w))
           (ending (each (column_step (source_units u.units (grid_count r.grid))) r.grid.columns 0 (with_scratch u w)))
 
     -- `let Some(local_bbox) = reference_bbox(..) else { return; }` and what follows

@@ -57,11 +57,6 @@ module _ {A : Type 0} where
   abbrev pub world : ScenePlan → A → List ℕ → List ℕ → World A
   world s o k m = record { state = s; out = o; counts = k; marks = m }
 
-  -- a flow by the `bool` that the code returns beside its world
-  abbrev pub flow : Bool → World A → Flow A
-  flow true w = go w
-  flow false w = halt w
-
   abbrev pub bind : Flow A → (World A → Flow A) → Flow A
   bind (go w) next = next w
   bind (halt w) next = halt w

@@ -1,15 +1,17 @@
-// What a plan passes on by value: the totals with the tape's end, the query without its hidden layers, what does not change during a plan,
-// why a box was made, and the answer of a call.
-// No code: the rules themselves are in specs/.
+// What a plan passes on: the totals with the tape's end, where a limit halted a visit, the query, what is given and does not change during a plan,
+// why a box was made, and why a call is refused. The rules themselves are in specs/.
 
 #![tactic(auto)]
 
+mod refusal;
+
 use check_sheet::Counts;
 use geometry::bbox::WorldBBox;
+pub use refusal::{PlanError, QueryError};
 
 // The tape's end, the texts and proxies listed so far, the six totals of `SceneStats` in its field order, and the proxies that met a full list.
 // The limits are tested on these numbers, so one struct stands for the Rust's `ScenePlan` with its lists' lengths.
-#[derive(Clone, Copy)]
+#[derive(Clone, Copy, Default)]
 pub struct ScenePlan {
     pub tape_end: u64,
     pub texts: u64,
@@ -21,6 +23,12 @@ pub struct ScenePlan {
     pub culled_geometry_batches: u64,
     pub skipped_subpixel_geometry_batches: u64,
     pub dropped_load_proxies: u64,
+}
+
+// The plan as a limit left it: the visit is over, where a `Result` has `Ok` it goes on. The Rust's `false`.
+#[derive(Clone, Copy)]
+pub struct Halted {
+    pub plan: ScenePlan,
 }
 
 // "A query: root cell 4, depth 4, view 4 f, zoom f": the hidden layers stand in a slice beside it.
@@ -40,6 +48,15 @@ pub struct Fixed {
     pub counts: Counts,
 }
 
+// What a plan is given, lent to its end: the sheet's bytes, its finder (an empty one is none), the hidden layers, and what goes by value.
+#[derive(Clone, Copy)]
+pub struct Given<'a> {
+    pub sheet: &'a [u8],
+    pub finder: &'a [u32],
+    pub hidden: &'a [u32],
+    pub fixed: Fixed,
+}
+
 // Why a box was made: document 02's nine reasons, in its order and with its numbers.
 #[derive(Clone, Copy)]
 pub enum Reason {
@@ -52,12 +69,4 @@ pub enum Reason {
     LargeGrid, // 7
     DenseReference, // 8
     DenseBatch, // 9
-}
-
-// What a call answers: the tape's length in bytes, a refusal's number and offset, or, for number 12, the length that the tape has.
-#[derive(Clone, Copy)]
-pub enum Answer {
-    Planned(usize),
-    Refused(u32, usize),
-    NoRoom(usize),
 }

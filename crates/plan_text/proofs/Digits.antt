@@ -1,18 +1,18 @@
 -- Digits: how many a number has, and how they are written from the last to the first.
 -- Assumes nothing.
 use mathlib.Core.Path.{◌≡◌, refl, sym, ap, ◌∙◌}
-use mathlib.Core.List.{List, [], ◌∷◌}
+use mathlib.Core.List.{List, [], ◌∷◌, ◌++◌, append-nil}
 use Prim.Native.Nat.{ℕ, zero, suc, ◌+◌, ◌-◌, ◌/◌, ◌%◌, ◌^◌, ◌*◌, ◌≤◌, ◌<◌}
-use native.Mathlib.Nat.{pow-suc, not-suc-le-zero}
+use native.Mathlib.Nat.{pow-suc, not-suc-le-zero, zero-add}
 use native.Mathlib.Omega.{arith}
-use lib.ListN.{length, set, length-append}
-use lib.Seq.{sets, set_comm}
+use lib.ListN.{length, drop, set, length-append}
+use lib.Seq.{sets, sets-eq, set_comm}
+use Rattle.std.proofs.lemmas.List.{drop_all}
 use lib.Dec.{lit≤}
 use borrow.Author.Tests.{lt-ltb, le-ltb}
 use Rattle.fields.proofs.Writing.{sets-append}
 use Rattle.walk.proofs.Offsets.{by_order}
 use Rattle.plan_text.specs.Text.{digit, digits, decimal_size_in, decimal_size}
-use Rattle.plan_text.specs.Written.{Written}
 
 -- ---- how many digits
 
@@ -89,15 +89,23 @@ last_digit b k n d at =
     ∙ sym (sets-set_after (digits b k (n / b)) d at (at + k) (digit (n % b)) (omega (arith, length_digits b k (n / b))))
 
 -- a loop's turn: the last of i digits is written, and those before it are left
-pub digit_written : (b i n : ℕ) (d : List ℕ) (at : ℕ) {v : ℕ} → 0 < i → v ≡ digit (n % b) → sets (set d (at + (i - 1)) v) at (digits b (i - 1) (n / b)) ≡ sets d at (digits b i n)
-digit_written b zero n d at h w = absurd (not-suc-le-zero h)
-digit_written b (suc k) n d at h w =
+pub digit_written : (b i n : ℕ) (d : List ℕ) {v : ℕ} → 0 < i → v ≡ digit (n % b) → sets (set d (i - 1) v) 0 (digits b (i - 1) (n / b)) ≡ sets d 0 (digits b i n)
+digit_written b zero n d h w = absurd (not-suc-le-zero h)
+digit_written b (suc k) n d h w =
     let e : suc k - 1 ≡ k = omega arith in
-    rw (e, w) (sym (last_digit b k n d at))
+    rw (e, w) (simp zero-add at (sym (last_digit b k n d 0)))
 
--- the loop's end: no digit is left
-pub digits_written : (b k n : ℕ) (d : List ℕ) (at rest : ℕ) {e : List ℕ} {i most : ℕ} → i ≤ 0 → sets e at (digits b i rest) ≡ sets d at (digits b k n) → k ≤ most → Written most d at (digits b k n) e (at + k)
+-- the loop's end: no digit is left, and the places are filled
+pub digits_written : (b n rest : ℕ) (d : List ℕ) {e : List ℕ} {i : ℕ} → i ≤ 0 → sets e 0 (digits b i rest) ≡ sets d 0 (digits b (length d) n) → e ≡ digits b (length d) n
 unfolding digits
-digits_written b k n d at rest {e} {i} h w m =
-    let z : i ≡ 0 = omega arith in
-    record { left = rw z at w; ends = omega (arith, length_digits b k n); within = omega arith }
+digits_written b n rest d {e} {i} h w =
+    let ds = digits b (length d) n in
+    let long : length ds ≡ length d = length_digits b (length d) n in
+    let none : drop (0 + length ds) d ≡ [] = drop_all (0 + length ds) d (omega arith) in
+    none_left (omega arith) w
+    ∙ sets-eq ds d 0 (omega arith)
+    ∙ ap (λ (l : List ℕ). ds ++ l) none
+    ∙ append-nil ds
+  where
+    none_left : i ≡ 0 → sets e 0 (digits b i rest) ≡ sets d 0 (digits b (length d) n) → e ≡ sets d 0 (digits b (length d) n)
+    none_left z w = rw z at w

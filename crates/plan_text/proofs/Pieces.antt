@@ -2,60 +2,73 @@
 -- Assumes nothing.
 use mathlib.Core.Path.{◌≡◌, refl, sym, ap, ap₂, ◌∙◌}
 use mathlib.Core.List.{List, [], ◌∷◌, ◌++◌, append-nil, append_assoc}
-use Prim.Native.Nat.{ℕ, zero, suc, ◌+◌, ◌*◌, ◌≤◌, ◌<◌}
+use Prim.Native.Nat.{ℕ, zero, suc, ◌+◌, ◌*◌, ◌≤◌}
 use native.Mathlib.Numerals.{add-one}
 use native.Mathlib.Omega.{arith}
-use lib.ListN.{length, take, get_or, set, length-append}
-use lib.Seq.{sets, take-suc, take_all, length-take-le}
+use lib.ListN.{length, take, drop, set, length-append, length-set}
+use lib.Seq.{sets, sets-eq, take_all, length-sets}
+use borrow.Rule.Slice.PartMut.{put_mid}
+use Rattle.std.proofs.lemmas.Slice.{put_mid-paste}
 use Rattle.fields.specs.Field.{uint_at}
 use Rattle.fields.proofs.Writing.{sets-append}
-use Rattle.plan_text.specs.Text.{each_field}
-use Rattle.plan_text.specs.Written.{Written}
+use Rattle.plan_text.specs.declared.piece.Line.{Line}
+use Rattle.plan_text.specs.Text.{digits, each_field}
+use Rattle.plan_text.specs.Written.{Written, Puts}
+use Rattle.plan_text.proofs.Digits.{length_digits}
 
 -- ---- one piece and then another
 
 infixl 20 ◌⨾◌
-pub ◌⨾◌ : {m n : ℕ} {d e r xs ys : List ℕ} {at a b : ℕ} → Written m d at xs e a → Written n e a ys r b → Written (m + n) d at (xs ++ ys) r b
-◌⨾◌ {m} {n} {d} {e} {r} {xs} {ys} {at} {a} {b} w v =
+pub ◌⨾◌ : {m n : ℕ} {a b c : Line} {xs ys : List ℕ} → Puts m a xs b → Puts n b ys c → Puts (m + n) a (xs ++ ys) c
+◌⨾◌ {m} {n} {a} {b} {c} {xs} {ys} first more =
+    let w = first.written in
+    let v = more.written in
     record {
-      left = v.left ∙ ap₂ (λ (l : List ℕ) (k : ℕ). sets l k ys) w.left w.ends ∙ sym (sets-append d xs ys at);
-      ends = omega (arith, w.ends, v.ends, length-append xs ys);
-      within = omega (arith, w.within, v.within);
+      same_text = more.same_text ∙ first.same_text;
+      same_length = more.same_length ∙ first.same_length;
+      written = record {
+        left = v.left ∙ ap₂ (λ (l : List ℕ) (k : ℕ). sets l k ys) w.left w.ends ∙ sym (sets-append a.text.now xs ys a.end);
+        ends = omega (arith, w.ends, v.ends, length-append xs ys);
+        within = omega (arith, w.within, v.within);
+      };
     }
 
 -- more room than is asked for
-pub roomy : {m n : ℕ} {d e xs : List ℕ} {at a : ℕ} → m ≤ n → Written m d at xs e a → Written n d at xs e a
-roomy h w = record { left = w.left; ends = w.ends; within = omega (arith, w.within) }
+pub roomy : {m n : ℕ} {a b : Line} {xs : List ℕ} → m ≤ n → Puts m a xs b → Puts n a xs b
+roomy h p = record { same_text = p.same_text; same_length = p.same_length; written = record { left = p.written.left; ends = p.written.ends; within = omega (arith, p.written.within) } }
 
 -- a piece of the number that was read
-pub said : (piece : ℕ → List ℕ) {n v w : ℕ} {d e : List ℕ} {at a : ℕ} → v ≡ w → Written n d at (piece v) e a → Written n d at (piece w) e a
-said piece p written = rw p at written
-
--- a blank, and what stands behind it
-pub behind_blank : {m : ℕ} {d e xs : List ℕ} {at a : ℕ} → Written m (set d at 32) (at + 1) xs e a → Written (1 + m) d at (32 ∷ xs) e a
-behind_blank {m} {d} {e} {xs} {at} w =
-    record {
-      left = w.left ∙ ap (λ (k : ℕ). sets (set d at 32) k xs) (add-one at);
-      ends = omega (arith, w.ends);
-      within = omega (arith, w.within);
-    }
+pub said : (piece : ℕ → List ℕ) {n v w : ℕ} {a b : Line} → v ≡ w → Puts n a (piece v) b → Puts n a (piece w) b
+said piece p put = rw p at put
 
 -- nothing is written
-pub nothing : (n : ℕ) (d : List ℕ) (at : ℕ) → Written n d at [] d at
-nothing n d at = record { left = refl; ends = omega arith; within = omega arith }
+pub nothing : (n : ℕ) (a : Line) → Puts n a [] a
+nothing n a = record { same_text = refl; same_length = refl; written = record { left = refl; ends = omega arith; within = omega arith } }
 
--- ---- a word, character by character
+-- what was written into the text that the line was lent
+pub puts : {n : ℕ} {a b : Line} {xs : List ℕ} → b.text.ghost_name ≡ a.text.ghost_name → Written n a.text.now a.end xs b.text.now b.end → Puts n a xs b
+puts {n} {a} {b} {xs} same written = record { same_text = same; same_length = ap length written.left ∙ length-sets a.text.now a.end xs; written = written }
 
-pub word_more : (d w : List ℕ) (at i : ℕ) {e : List ℕ} → i < length w → e ≡ sets d at (take i w) → set e (at + i) (get_or w i 0) ≡ sets d at (take (i + 1) w)
-word_more d w at i h p =
-    let l : length (take i w) ≡ i = length-take-le i w (omega arith) in
-    ap₂ (λ (e : List ℕ) (k : ℕ). set e (at + k) (get_or w i 0)) p (sym l)
-    ∙ sym (sets-append d (take i w) (get_or w i 0 ∷ []) at)
-    ∙ ap (sets d at) (sym (take-suc w i 0 h) ∙ ap (λ (k : ℕ). take k w) (sym (add-one i)))
+-- ---- bytes that were put into a part of the text
 
-pub word_written : (d w : List ℕ) (at i : ℕ) {e : List ℕ} → i ≤ length w → length w ≤ i → e ≡ sets d at (take i w) → Written (length w) d at w e (at + i)
-word_written d w at i g h p =
-    record { left = p ∙ ap (sets d at) (take_all i w h); ends = omega arith; within = omega arith }
+pub placed : {d v w : List ℕ} {at k : ℕ} → v ≡ w → length w ≡ k → at + k ≤ length d → Written k d at w (put_mid at k d v) (at + k)
+placed {d} {v} {w} {at} {k} same long fits =
+    let p : put_mid at k d v ≡ take at d ++ take k w ++ drop (at + k) d = put_mid-paste at k d v w k same refl (sym long) in
+    record {
+      left = p ∙ rw (← long) (ap (λ (l : List ℕ). take at d ++ l ++ drop (at + length w) d) (take_all (length w) w (omega arith)) ∙ sym (sets-eq w d at (omega (arith, long))));
+      ends = rw long;
+      within = omega arith;
+    }
+
+-- a blank, and so many digits behind it
+pub digits_placed : {d v : List ℕ} {at : ℕ} (radix size n : ℕ) → v ≡ digits radix size n → at + 1 + size ≤ length d → Written (1 + size) d at (32 ∷ digits radix size n) (put_mid (at + 1) size (set d at 32) v) (at + 1 + size)
+digits_placed {d} {v} {at} radix size n same fits =
+    let w = placed {d = set d at 32} {at = at + 1} same (length_digits radix size n) (omega (arith, length-set {A = ℕ})) in
+    record {
+      left = w.left ∙ ap (λ (k : ℕ). sets (set d at 32) k (digits radix size n)) (add-one at);
+      ends = omega (arith, w.ends);
+      within = omega arith;
+    }
 
 -- ---- fields of 8 bytes
 
@@ -70,5 +83,5 @@ module _ (piece : ℕ → List ℕ) (s : List ℕ) where
       ∙ ap (λ (k : ℕ). (piece (uint_at 8 s at) ++ each_field piece i s (at + 8)) ++ piece (uint_at 8 s k)) e
 
   -- a loop's turn
-  pub field_written : (n i from : ℕ) {m : ℕ} {d e r : List ℕ} {at a b : ℕ} {v : ℕ} → Written m d at (each_field piece i s from) e a → v ≡ uint_at 8 s (from + 8 * i) → Written n e a (piece v) r b → Written (m + n) d at (each_field piece (i + 1) s from) r b
-  field_written n i from {m} {d} {e} {r} {at} {a} {b} w p v = rw (add-one, field_more i from, ← p) (w ⨾ v)
+  pub field_written : (n i from : ℕ) {m : ℕ} {a b c : Line} {v : ℕ} → Puts m a (each_field piece i s from) b → v ≡ uint_at 8 s (from + 8 * i) → Puts n b (piece v) c → Puts (m + n) a (each_field piece (i + 1) s from) c
+  field_written n i from {m} {a} {b} {c} before p now = rw (add-one, field_more i from, ← p) (before ⨾ now)

@@ -3,6 +3,7 @@
 use Rattle.std.specs.Prelude.{◌≡◌, ◌⊎◌, List, ◌++◌, ℕ, ◌+◌, ◌≤◌, ◌<◌, length, take, drop}
 use Rattle.std.proofs.lemmas.List.Edits.{sets}
 use Rattle.plan_text.specs.declared.lines.Lines.{Lines}
+use Rattle.plan_text.specs.declared.piece.Line.{Line}
 use Rattle.plan_text.specs.Text.{lines_from}
 
 -- Bytes are written into d from `at` on, which leaves e and ends at `end`; there are at most `most` of them.
@@ -11,6 +12,12 @@ pub record Written (most : ℕ) (d : List ℕ) (at : ℕ) (bytes e : List ℕ) (
   pub left : e ≡ sets d at bytes
   pub ends : end ≡ at + length bytes
   pub within : end ≤ at + most
+
+-- A line goes on by these bytes, at most `most` of them, in the text that it was lent.
+pub record Puts (most : ℕ) (before : Line) (bytes : List ℕ) (after : Line) : Type 0 where
+  pub same_text : after.text.ghost_name ≡ before.text.ghost_name
+  pub same_length : length after.text.now ≡ length before.text.now
+  pub written : Written most before.text.now before.end bytes after.text.now after.end
 
 -- no line is longer
 abbrev pub line_room : ℕ

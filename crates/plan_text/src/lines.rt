@@ -16,6 +16,7 @@ pub struct Lines {
 }
 
 // Where the record after this one stands. A record that says it is shorter than its head is the last.
+#[tactic(auto, using(std::proofs::lemmas::Bool::Decides::nat_tests), unfolding(crate::specs::Text::next_record))]
 fn next_record(tape: &[u8], at: usize) -> usize
     requires { at < length tape.now }
     ensures { result ≡ next_record tape.now at }

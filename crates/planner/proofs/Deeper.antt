@@ -6,9 +6,8 @@ use mathlib.Core.Bool.{cond}
 use Prim.Native.Nat.{ℕ, ◌<◌}
 use native.Mathlib.Omega.{arith}
 use Rattle.abstract_sheet.specs.Sheet.{sheet_of}
-use Rattle.check_sheet.specs.declared.Checked.{Checked}
-use Rattle.check_sheet.specs.declared.Checked.TheVariants as checked
-use Rattle.check_sheet.specs.Check.{check_sheet}
+use Rattle.std.specs.Prelude.{Ok, Err}
+use Rattle.check_sheet.specs.Check.{Checked, check_sheet}
 use Rattle.finder.specs.Finder.{belongs}
 use Rattle.plan_rules.specs.Limits.{max_depth}
 use Rattle.plan_rules.specs.Outcome.{Outcome, outcome_of}
@@ -23,8 +22,8 @@ unfolding outcome_with_up_to
 former_answers_stay_with s finder q o k m h = by (check_sheet s)
   where
     by : (c : Checked) → checked_with_up_to max_depth c s finder q o k m ≡ checked_with_up_to former_max_depth c s finder q o k m
-    by (checked.Refused number offset) = refl
-    by (checked.Sound counts) =
+    by (Err e) = refl
+    by (Ok counts) =
         ap (λ (x : Outcome). cond (belongs finder s) x (turned_away o k m)) (same_sound max_depth former_max_depth q o k m (omega (arith, h)) h (sheet_of s) counts.cells)
 
 pub only_deeper_is_too_deep_with : OnlyDeeperIsTooDeepWith

@@ -7,8 +7,8 @@ use Prim.Native.Nat.{ℕ, ◌≤◌, ◌<◌}
 use lib.ListN.{length, replicate, take, drop}
 use lib.Seq.{length-take-le}
 use lib.Dec.{leb}
-use Rattle.plan_rules.specs.declared.Answer.{Answer}
-use Rattle.plan_rules.specs.declared.Answer.TheVariants.{Planned, NoRoom}
+use Rattle.std.specs.Prelude.{Ok, Err}
+use Rattle.plan_rules.specs.declared.refusal.PlanError.TheVariants.{NoRoom}
 use Rattle.plan_rules.specs.declared.ScenePlan.{ScenePlan}
 use Rattle.plan_rules.specs.declared.Fixed.{Fixed}
 use Rattle.plan_rules.specs.Limits.{max_total}
@@ -18,7 +18,7 @@ use Rattle.plan_rules.specs.Scratch.{counts_named, marks_named}
 use Rattle.plan_rules.specs.Push as push
 use Rattle.plan_rules.specs.Plan.{plan}
 use Rattle.plan_rules.specs.OnTape.{Given, Output, query, say, visit_root}
-use Rattle.plan_rules.specs.Outcome.{outcome, fresh_plan, tape_of, zeroed, delivered}
+use Rattle.plan_rules.specs.Outcome.{Answer, outcome, fresh_plan, tape_of, zeroed, delivered}
 use Rattle.plan_rules.proofs.OutcomeTheorem.{written, written_length, written_outcome, delivered_is_written}
 use Rattle.planner.specs.Answered.{answered}
 use Rattle.planner.specs.Swept.{visited, swept}
@@ -41,8 +41,8 @@ module _ {f : Fixed} (g : Given f) (o k m : List ℕ) where
   unfolding answered written_outcome
   answered_is_written =
       ap (λ (n : ℕ). cond (leb ended.state.tape_end n)
-      (outcome (Planned ended.state.tape_end) ended.out (zeroed nk k) (zeroed nm m))
-      (outcome (NoRoom ended.state.tape_end) (replicate n 0) (zeroed nk k) (zeroed nm m))) (written_length g.sheet cells (query g) o k m)
+      (outcome (Ok ended.state.tape_end) ended.out (zeroed nk k) (zeroed nm m))
+      (outcome (Err (NoRoom ended.state.tape_end)) (replicate n 0) (zeroed nk k) (zeroed nm m))) (written_length g.sheet cells (query g) o k m)
 
   -- `visited`: what the visits left of the plan and the output. `finished`: the contract of `finish`.
   pub call_delivered : (length o < max_total) → (s : ScenePlan) (b k₁ m₁ : List ℕ)

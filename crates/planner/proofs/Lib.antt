@@ -1,4 +1,5 @@
 -- Laws that the proofs about this crate's code cite, and what follows from the entry point's contract. Assumes nothing.
+pub mod Refusals  -- no number of one is 0, and what `?` hands on
 pub mod Answers  -- question 12, by code path
 pub mod Sweep  -- the visits on zeroed scratch
 pub mod Delivered  -- the answer is the outcome that the rules define

@@ -6,10 +6,19 @@ use Prim.Native.Nat.{ℕ}
 use lib.ListN.{length, replicate}
 use Rattle.plan_rules.specs.declared.Fixed.{Fixed}
 use Rattle.plan_rules.specs.declared.ScenePlan.{ScenePlan}
-use Rattle.plan_rules.specs.Event.{empty_plan}
+use Rattle.plan_rules.specs.Event.{scene_plan, empty_plan}
 use Rattle.plan_rules.specs.World.{world}
 use Rattle.plan_rules.specs.OnTape.{Given, visit_root}
 use Rattle.planner.specs.Swept.{visited, swept}
+
+-- `ScenePlan::default()`, by what its derive promises of each total
+abbrev IsDefault : ScenePlan → Type 0
+IsDefault s = (s.tape_end ≡ 0) × ((s.texts ≡ 0) × ((s.load_proxies ≡ 0) × ((s.detail_cells ≡ 0) × ((s.detail_objects ≡ 0) × ((s.culled_references ≡ 0)
+    × ((s.skipped_subpixel_references ≡ 0) × ((s.culled_geometry_batches ≡ 0) × ((s.skipped_subpixel_geometry_batches ≡ 0) × (s.dropped_load_proxies ≡ 0)))))))))
+
+pub default_is_empty : (s : ScenePlan) → IsDefault s → s ≡ empty_plan
+unfolding empty_plan
+default_is_empty s (a, (b, (c, (d, (e, (f, (g, (h, (i, j))))))))) = λ k. scene_plan (a k) (b k) (c k) (d k) (e k) (f k) (g k) (h k) (i k) (j k)
 
 -- Places as lent, zeroed (₁), as the visits leave them (₂), and zeroed again (₃).
 module _ {f : Fixed} (g : Given f) (o k m : List ℕ) where

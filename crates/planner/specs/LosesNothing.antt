@@ -5,10 +5,9 @@ use Rattle.std.specs.Float.{fin}
 use Rattle.std.specs.Float.Ieee.{le}
 use Rattle.abstract_sheet.specs.Sheet.{sheet_of}
 use Rattle.exact.specs.Screen.{zoom_power}
-use Rattle.plan_rules.specs.declared.Answer.{Answer}
 use Rattle.plan_rules.specs.declared.SceneOptions.{SceneOptions}
 use Rattle.plan_rules.specs.OnTape.{asked}
-use Rattle.plan_rules.specs.Outcome.{number_of, outcome, outcome_of}
+use Rattle.plan_rules.specs.Outcome.{Answer, number_of, outcome, outcome_of}
 use Rattle.paths.specs.Square.{Square}
 use Rattle.paths.specs.TrueBoxes.{TrueBoxes}
 use Rattle.cover.specs.View.{WholeView}

@@ -2,10 +2,9 @@
 -- Definitions only; rests on `LosesNothing` and on the words of `slanted`.
 use Rattle.std.specs.Prelude.{List, ℕ}
 use Rattle.abstract_sheet.specs.Sheet.{sheet_of}
-use Rattle.plan_rules.specs.declared.Answer.{Answer}
 use Rattle.plan_rules.specs.declared.SceneOptions.{SceneOptions}
 use Rattle.plan_rules.specs.OnTape.{asked}
-use Rattle.plan_rules.specs.Outcome.{outcome}
+use Rattle.plan_rules.specs.Outcome.{Answer, outcome}
 use Rattle.cover.specs.Trace.{Trace}
 use Rattle.cover.specs.Demand3.{IsTape}
 use Rattle.fractions.specs.Errors.{position_error, most_bounded}

@@ -1,10 +1,9 @@
 -- PAPER 8 OF `planner::plan` and `plan_with_finder`, as a caller has it: what the bytes of an accepted call say of its proxies, and the length that no call exceeds.
 -- Definitions only; rests on the rules' outcome of a call and on the words of `totals`.
 use Rattle.std.specs.Prelude.{◌≡◌, List, ℕ, ◌≤◌, take}
-use Rattle.plan_rules.specs.declared.Answer.{Answer}
 use Rattle.plan_rules.specs.declared.SceneOptions.{SceneOptions}
 use Rattle.plan_rules.specs.OnTape.{asked}
-use Rattle.plan_rules.specs.Outcome.{length_of, outcome, outcome_of}
+use Rattle.plan_rules.specs.Outcome.{Answer, length_of, outcome, outcome_of}
 use Rattle.totals.specs.Proxies.{TapeAddsUp, untagged_events}
 use Rattle.totals.specs.TapeLength.{most_tape}
 use Rattle.planner.specs.WithFinder.{outcome_with}

@@ -1,38 +1,27 @@
 // The visits on scratch that is zeroed before and after: a tape does not depend on what the scratch held.
 ghost use Rattle.std.specs.Prelude.{◌≡◌, length};
-ghost use Rattle.plan_rules.specs.OnTape.{given, lent};
+ghost use Rattle.plan_rules.specs.OnTape.{given_of, lent};
 ghost use Rattle.planner.specs.Swept.{swept};
 
 use crate::root::visit_root;
-use crate::start::empty_plan;
-use plan_rules::{Fixed, ScenePlan};
+use plan_rules::{Given, ScenePlan};
+use scratch::Scratch;
 
 pub fn visit_clean(
-    sheet: &[u8],
-    finder: &[u32],
-    fixed: Fixed,
-    hidden: &[u32],
+    given: &Given<'_>,
     out: &mut [u8],
     counts: &mut [u64],
     marks: &mut [u8],
 ) -> ScenePlan
     ensures { lent result out.exit counts.exit marks.exit
-        ≡ swept (given fixed sheet.entry finder.entry hidden.entry) out.old (length counts.old) (length marks.old) }
+        ≡ swept (given_of given.now) out.old (length counts.old) (length marks.old) }
 {
-    scratch::clear_counts(counts);
-    scratch::clear_bytes(marks);
-    let plan = visit_root(
-        sheet,
-        finder,
-        fixed,
-        hidden,
-        out,
-        counts,
-        marks,
-        empty_plan(),
-    );
+    let mut scratch = Scratch { counts, marks };
+    scratch.counts.fill(0);
+    scratch.marks.fill(0);
+    let plan = visit_root(given, out, &mut scratch, ScenePlan::default());
     // "It and an accepted plan leave the named scratch places zero."
-    scratch::clear_counts(counts);
-    scratch::clear_bytes(marks);
+    scratch.counts.fill(0);
+    scratch.marks.fill(0);
     plan
 }

@@ -4,7 +4,6 @@
 
 #![tactic(auto)]
 
-mod start; // the root's placement and the empty plan
 mod finish; // the totals, and question 12
 mod root; // the visit of the root
 mod clean; // the visits on zeroed scratch

@@ -1,64 +1,52 @@
 // The visit of the root: one proxy at depth 0, else the visit of its cell where it stands.
-ghost use Rattle.std.specs.Prelude.{◌≡◌, List, ℕ};
-ghost use Rattle.plan_rules.specs.OnTape.{given_bytes, given, Leaves, lent, visit_root};
+ghost use Rattle.std.specs.Prelude.{◌≡◌};
+ghost use Rattle.scratch.specs.Lent.{StaysLent};
+ghost use Rattle.plan_rules.specs.OnTape.{given_of, Leaves, lent, visit_root};
 
-use crate::start::identity;
-use geometry::bbox::{Bounds, WorldBBox};
-use plan_rules::{Fixed, Reason, ScenePlan};
-use walk::Found;
+use geometry::placement::Placement;
+use plan_rules::{Given, Reason, ScenePlan};
+use scratch::Scratch;
 
 // "Depth 0 gives just one proxy if the root has a box that overlaps the view."
-fn load_root(
-    sheet: &[u8],
-    finder: &[u32],
-    fixed: Fixed,
-    out: &mut [u8],
-    plan: ScenePlan,
-) -> ScenePlan
-    ensures { (hidden : List ℕ) → Leaves result out.exit (visit_root (given_bytes fixed sheet.now finder.now hidden) 0) plan out.entry }
+fn load_root(given: &Given<'_>, out: &mut [u8], plan: ScenePlan) -> ScenePlan
+    ensures { Leaves result out.exit (visit_root (given_of given.now) 0) plan out.entry }
 {
-    let Found::At(at) = look_up::look_up(sheet, finder, fixed.counts, 5, fixed.options.root) else {
+    let query = given.fixed.options;
+    let counts = given.fixed.counts;
+    let Some(at) = look_up::look_up(given.sheet, given.finder, counts, 5, query.root) else {
         return plan;
     };
-    let record = records::cell_at(sheet, at);
-    let bounds = record.bbox;
-    let Bounds::Box(min_x, min_y, max_x, max_y) = bounds else {
+    let record = records::cell_at(given.sheet, at);
+    let Some(bbox) = record.bbox.bbox() else {
         return plan;
     };
-    let bbox = WorldBBox::new(min_x, min_y, max_x, max_y);
-    if !bbox.overlaps(fixed.options.view) {
+    if !bbox.overlaps(query.view) {
         return plan;
     }
-    events::add_load(out, plan, Reason::DepthZero, fixed.options.root, bbox)
+    events::add_load(out, plan, Reason::DepthZero, query.root, bbox)
 }
 
 pub fn visit_root(
-    sheet: &[u8],
-    finder: &[u32],
-    fixed: Fixed,
-    hidden: &[u32],
+    given: &Given<'_>,
     out: &mut [u8],
-    counts: &mut [u64],
-    marks: &mut [u8],
+    scratch: &mut Scratch<'_>,
     plan: ScenePlan,
 ) -> ScenePlan
-    ensures { lent result out.exit counts.exit marks.exit
-        ≡ visit_root (given fixed sheet.entry finder.entry hidden.entry) fixed.options.depth (lent plan out.entry counts.entry marks.entry) }
+    ensures visits { lent result out.exit scratch.new.counts scratch.new.marks
+        ≡ visit_root (given_of given.now) given.now.fixed.options.depth (lent plan out.entry scratch.old.counts scratch.old.marks) }
+    ensures others { StaysLent scratch.old scratch.new }
 {
-    if fixed.options.depth == 0 {
-        return load_root(sheet, finder, fixed, out, plan);
+    let query = given.fixed.options;
+    if query.depth == 0 {
+        return load_root(given, out, plan);
     }
     visits::visit_cell(
-        sheet,
-        finder,
-        fixed,
-        hidden,
+        given,
         out,
-        counts,
-        marks,
+        scratch,
         plan,
-        fixed.options.root,
-        identity(),
-        fixed.options.depth,
+        query.root,
+        Placement::IDENTITY,
+        query.depth,
     )
 }

@@ -4,7 +4,7 @@ ghost use Rattle.plan_rules.specs.Outcome.{number_of, offset_of, length_of};
 ghost use Rattle.planner_c.specs.Call.{options_from};
 
 use geometry::bbox::WorldBBox;
-use plan_rules::{Answer, SceneOptions};
+use plan_rules::{PlanError, SceneOptions};
 
 pub fn options_from(
     root: u32,
@@ -32,24 +32,19 @@ pub fn options_from(
 }
 
 // The number of the first no, with its offset, or 0; the tape's length with 0 and with 12.
-pub fn tell(answer: Answer, offset: &mut usize, length: &mut usize) -> u32
+pub fn tell(answer: Result<usize, PlanError>, offset: &mut usize, length: &mut usize) -> u32
     ensures { (result ≡ number_of answer) × (offset.new ≡ offset_of answer) × (length.new ≡ length_of answer) }
 {
     match answer {
-        Answer::Planned(tape) => {
+        Ok(tape) => {
             *offset = 0;
             *length = tape;
             0
         }
-        Answer::Refused(number, at) => {
-            *offset = at;
-            *length = 0;
-            number
-        }
-        Answer::NoRoom(tape) => {
-            *offset = 0;
-            *length = tape;
-            12
+        Err(error) => {
+            *offset = error.offset();
+            *length = error.length();
+            error.number()
         }
     }
 }

@@ -3,8 +3,6 @@ ghost use Rattle.std.specs.Prelude.{◌≡◌};
 ghost use Rattle.open_sheet.specs.Opening.{opening_of};
 ghost use Rattle.planner_c.specs.Call.{opened};
 
-use open_sheet::Opened;
-
 // The number of the first no, with its offset, or 0; the sheet's number of places with 0 and with 13.
 #[unsafe(no_mangle)]
 pub extern "C" fn scene_open(
@@ -16,20 +14,15 @@ pub extern "C" fn scene_open(
     ensures { opened result offset.exit places.exit finder.exit ≡ opening_of sheet.now finder.old }
 {
     match open_sheet::open_sheet(sheet, finder) {
-        Opened::Open(count) => {
+        Ok(count) => {
             *offset = 0;
             *places = count;
             0
         }
-        Opened::Refused(number, at) => {
-            *offset = at;
-            *places = 0;
-            number
-        }
-        Opened::NoRoom(count) => {
-            *offset = 0;
-            *places = count;
-            13
+        Err(error) => {
+            *offset = error.offset();
+            *places = error.places();
+            error.number()
         }
     }
 }

@@ -9,12 +9,5 @@ pub fn is_hidden(hidden: &[u32], layer: u32, data_type: u32) -> bool
     ensures { (fixed : Fixed) → result ≡ hides (fixed_query fixed hidden.now) layer data_type }
 {
     let key = layer as u64 * 65536 + data_type as u64;
-    let mut i = 0;
-    while i < hidden.len() {
-        if hidden[i] as u64 == key {
-            return true;
-        }
-        i += 1;
-    }
-    false
+    hidden.iter().any(|shown| *shown as u64 == key)
 }

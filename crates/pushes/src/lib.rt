@@ -3,16 +3,7 @@
 
 #![tactic(auto)]
 
-use plan_rules::ScenePlan;
-
 mod hidden; // the hidden layers
 mod items; // batches, texts and nodes by number
 
 pub use items::{push_geometry, push_node, push_text};
-
-// A plan, and whether the visit goes on: `false` where a limit stopped a node's points or a list of a cell.
-#[derive(Clone, Copy)]
-pub struct Visited {
-    pub plan: ScenePlan,
-    pub whole: bool,
-}

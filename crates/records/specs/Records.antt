@@ -18,6 +18,8 @@ use Rattle.records.specs.declared.PreparedReference.{PreparedReference}
 use Rattle.records.specs.declared.PreparedCell.{PreparedCell}
 use Rattle.records.specs.declared.SourceField.{SourceField}
 use Rattle.records.specs.declared.ListCounts.{ListCounts}
+use Rattle.records.specs.declared.cells.CellList.{CellList}
+use Rattle.records.specs.declared.cells.CellList.TheVariants.{Geometries, Texts, Nodes, References}
 
 -- ---- Parts of a body
 
@@ -163,3 +165,13 @@ cell_node_at s at i = cell_number_at s at (nodes_from s at + i)
 
 unfoldable pub cell_reference_at : List ℕ → ℕ → ℕ → ℕ
 cell_reference_at s at i = cell_number_at s at (references_from s at + i)
+
+-- any of the four: where a list starts among the numbers, and the number at a place of it
+abbrev pub start_of : CellList → List ℕ → ℕ → ℕ
+start_of Geometries s at = 0
+start_of Texts s at = texts_from s at
+start_of Nodes s at = nodes_from s at
+start_of References s at = references_from s at
+
+abbrev pub listed_at : CellList → List ℕ → ℕ → ℕ → ℕ
+listed_at list s at i = cell_number_at s at (start_of list s at + i)

@@ -9,12 +9,14 @@ use geometry::placement::DVec2;
 use grid::Grid;
 
 pub mod format; // where each field stands
+mod reader; // the reader of any record
 mod parts; // what the body of a record is made of
 mod items; // batches, texts, nodes and references
 mod cells; // cells and their lists
 
 pub use cells::{
-    cell_at, cell_geometry_at, cell_node_at, cell_reference_at, cell_text_at, list_counts_within,
+    CellList, cell_at, cell_geometry_at, cell_node_at, cell_reference_at, cell_text_at,
+    list_counts_within, listed_at,
 };
 pub use items::{geometry_at, node_at, node_point_at, reference_at, source_within, text_at};
 pub use parts::{NO_LABEL, label};

@@ -1,4 +1,5 @@
 // What the body of a record is made of: points, boxes, flags and sources.
+ghost use Rattle.std.proofs.Math.Dec.{lit<, lit≤};
 ghost use Rattle.std.specs.Prelude.{◌≡◌, ℕ, ◌+◌, ◌-◌, ◌*◌, ◌<◌, ◌≤◌, length, drop};
 ghost use Rattle.fields.specs.Field.{uint_at};
 ghost use Rattle.records.specs.Format.{f, reference, end_of};
@@ -6,7 +7,8 @@ ghost use Rattle.records.specs.Records.{dvec2_at, world_bbox_at, bounds_at, bit,
 ghost use Rattle.records.specs.Sources.{label};
 
 use crate::PreparedSource;
-use crate::format::{FLOAT, REFERENCE_END};
+use crate::format::{FLOAT, POINT, REFERENCE_END};
+use crate::reader::Record;
 use floats::pattern::{f64_from_bits, is_finite_pattern};
 use geometry::bbox::{Bounds, WorldBBox};
 use geometry::placement::DVec2;
@@ -15,21 +17,15 @@ use geometry::placement::DVec2;
 pub fn length_from(s: &[u8], at: usize) -> usize
     ensures { result ≡ length s.now - at }
 {
-    if at < s.len() {
-        return s.len() - at;
-    }
-    0
+    s.len().saturating_sub(at)
 }
 
 // The bytes from an offset on.
 pub fn from(s: &[u8], at: usize) -> &[u8]
     ensures { result.now ≡ drop at s.now }
 {
-    if at < s.len() {
-        return &s[at..];
-    }
-    let end = s.len();
-    &s[end..]
+    let start = at.min(s.len());
+    &s[start..]
 }
 
 // The bytes from an offset on, at most as many as the longest record has, and zeros after them.
@@ -43,14 +39,19 @@ pub fn padded(s: &[u8], at: usize) -> [u8; REFERENCE_END]
     out
 }
 
-pub fn dvec2_within(s: &[u8], at: usize) -> DVec2
-    requires { at + 2 * f ≤ length s.now }
-    ensures { result ≡ dvec2_at s.now at }
-{
-    DVec2 {
-        x: fields::f64_within(s, at),
-        y: fields::f64_within(s, at + FLOAT),
+impl Record for DVec2 {
+    const END: usize = POINT;
+
+    ghost END = { 2 * f };
+
+    ghost read = { dvec2_at };
+
+    #[tactic(auto, unfolding(crate::specs::Records::dvec2_at))]
+    fn within(s: &[u8], at: usize) -> DVec2 {
+        DVec2::new(fields::f64_within(s, at), fields::f64_within(s, at + FLOAT))
     }
+
+    ghost size = { (lit< tt, lit≤ tt) };
 }
 
 pub fn world_bbox_within(s: &[u8], at: usize) -> WorldBBox
@@ -61,7 +62,7 @@ pub fn world_bbox_within(s: &[u8], at: usize) -> WorldBBox
     let min_y = fields::u64_within(s, at + FLOAT);
     let max_x = fields::u64_within(s, at + 2 * FLOAT);
     let max_y = fields::u64_within(s, at + 3 * FLOAT);
-    // Eager, so that the four have one branch. A finite pattern is no NaN's: its float needs no test.
+    // Kept: joined by `&`, the four tests have one branch; `all` over them has four. A finite pattern is no NaN's: its float needs no test.
     if is_finite_pattern(min_x)
         & is_finite_pattern(min_y)
         & is_finite_pattern(max_x)
@@ -83,18 +84,20 @@ pub fn world_bbox_within(s: &[u8], at: usize) -> WorldBBox
 }
 
 // The box at an offset, if it is present.
+#[tactic(auto, unfolding(crate::specs::Records::bounds_at, crate::specs::Records::world_bbox_at, geometry::specs::Bbox::boxed))]
 pub fn bounds_within(s: &[u8], at: usize, present: bool) -> Bounds
     requires { at + 4 * f ≤ length s.now }
     ensures { result ≡ bounds_at s.now at present }
 {
     if present {
-        let bbox = world_bbox_within(s, at);
-        return Bounds::Box(bbox.min_x, bbox.min_y, bbox.max_x, bbox.max_y);
+        Bounds::from(world_bbox_within(s, at))
+    } else {
+        Bounds::Absent
     }
-    Bounds::Absent
 }
 
 // A bit of the flags.
+#[tactic(auto, unfolding(crate::specs::Records::bit))]
 pub fn bit(flags: u16, place: u32) -> bool
     requires { place < 16 }
     ensures { result ≡ bit flags place }
@@ -102,6 +105,7 @@ pub fn bit(flags: u16, place: u32) -> bool
     (flags >> place) % 2 == 1
 }
 
+// Kept: a kind is the record's own u16, and each is answered for; an enum of the five would ask more of callers.
 #[tactic(auto, unfolding(crate::specs::Records::source_of))]
 pub fn source_of(kind: u16, number: u32) -> PreparedSource
     ensures { result ≡ source_of kind number }
@@ -116,6 +120,7 @@ pub fn source_of(kind: u16, number: u32) -> PreparedSource
 }
 
 // "cell number as label, or FFFFFFFF (hexadecimal) for none"
+// Kept: the tape's own encoding of none, which `label` gives as its contract says.
 pub const NO_LABEL: u32 = 0xffff_ffff;
 
 // `reference.label`
@@ -125,9 +130,6 @@ pub fn label(source: PreparedSource) -> u32
 {
     match source {
         PreparedSource::Cell(cell) => cell,
-        PreparedSource::Reference(_) => NO_LABEL,
-        PreparedSource::Geometry(_) => NO_LABEL,
-        PreparedSource::Text(_) => NO_LABEL,
-        PreparedSource::Node(_) => NO_LABEL,
+        _ => NO_LABEL,
     }
 }

@@ -1,5 +1,4 @@
-// Conversions to f32, rounded to nearest, ties to even, as Rust's `as` has them. An f32 has 24 digits, its
-// exponent field is 255 at an infinity, and its smallest value is 2^-149.
+// Conversions to f32, rounded to nearest, ties to even, as Rust's `as` has them. The smallest f32 is 2^-149.
 ghost use Rattle.std.specs.Prelude.{◌≡◌, true, not, T, pos, from_bits};
 ghost use Rattle.std.specs.Float.{binary32, binary64};
 ghost use Rattle.std.specs.Float.Ieee.{of_int, nan_bits};
@@ -17,15 +16,15 @@ pub fn u64_to_f32(n: u64) -> f32
         return std::num::nearest_u32_to_f32(n as u32);
     }
     let s = leading_zeros(n);
-    f32::from_bits(pack(n << s, 149, s, 24, 255) as u32)
+    f32::from_bits(pack::<f32>(n << s, 149, s) as u32)
 }
 
 // x as the nearest f32.
 pub fn f64_to_f32(x: f64) -> f32
     ensures { result ≡ narrow x }
 {
-    if x != x {
-        return 0.0 / 0.0;
+    if x.is_nan() {
+        return f32::NAN;
     }
     if narrows_to_normal(x) {
         return narrow_normal(x);
@@ -66,5 +65,5 @@ fn narrow_pattern(n: u64) -> u64
         return sign;
     }
     let s = leading_zeros(digits);
-    sign | pack(digits << s, exponent_of(n), s + 925, 24, 255)
+    sign | pack::<f32>(digits << s, exponent_of(n), s + 925)
 }

@@ -2,7 +2,8 @@
 // word m whose top bit is set and that is rounded to odd: m is exact, or odd and within one unit. Then
 // `pack` rounds m to nearest, ties to even, at the format's precision, and answers the pattern's
 // magnitude.
-ghost use Rattle.std.specs.Prelude.{◌≡◌, ◌-◌, ◌*◌, ◌^◌, ◌<◌, ◌≤◌};
+ghost use Rattle.std.specs.Prelude.{◌≡◌, ℕ, ◌-◌, ◌*◌, ◌^◌, ◌<◌, ◌≤◌};
+ghost use Rattle.std.proofs.Common.{lit<, lit≤};
 ghost use Rattle.std.specs.Float.Ieee.Nearest.{closest};
 ghost use Rattle.rounding.specs.Packed.{packed};
 
@@ -34,28 +35,60 @@ pub(crate) fn shift_to_nearest(m: u64, d: u64) -> u64
     }
 }
 
-// The pattern, without its sign, of the float nearest to m * 2^up / 2^down smallest values, at a
-// format of `precision` digits whose exponent field is `ones` at an infinity. The exponent's field and
-// the fraction are added as one number, so that a carry out of the digits steps the field, and one out
-// of the largest value gives the infinity.
-pub fn pack(m: u64, up: u64, down: u64, precision: u64, ones: u64) -> u64
-    requires { (2 ≤ precision) × (precision ≤ 62) × (up < 2 ^ 32) × (down < 2 ^ 32) × (ones * 2 ^ (precision - 1) < 2 ^ 63) }
-    ensures { result ≡ packed precision ones m up down }
+// A binary format: how many digits a value has, and the exponent field of an infinity.
+pub trait Format {
+    ghost PRECISION: { ℕ };
+
+    const PRECISION: u64;
+
+    ghost ONES: { ℕ };
+
+    const ONES: u64;
+
+    ghost sizes: { (2 ≤ PRECISION) × (PRECISION ≤ 62) × (ONES * 2 ^ (PRECISION - 1) < 2 ^ 63) };
+}
+
+impl Format for f32 {
+    ghost PRECISION = { 24 };
+
+    const PRECISION: u64 = 24;
+
+    ghost ONES = { 255 };
+
+    const ONES: u64 = 255;
+
+    ghost sizes = { (lit≤ tt, lit≤ tt, lit< tt) };
+}
+
+impl Format for f64 {
+    ghost PRECISION = { 53 };
+
+    const PRECISION: u64 = 53;
+
+    ghost ONES = { 2047 };
+
+    const ONES: u64 = 2047;
+
+    ghost sizes = { (lit≤ tt, lit≤ tt, lit< tt) };
+}
+
+// The pattern, without its sign, of the float of the format F nearest to m * 2^up / 2^down smallest
+// values. The exponent's field and the fraction are added as one number, so that a carry out of the
+// digits steps the field, and one out of the largest value gives the infinity.
+pub fn pack<F: Format>(m: u64, up: u64, down: u64) -> u64
+    requires { (up < 2 ^ 32) × (down < 2 ^ 32) }
+    ensures { result ≡ packed F.PRECISION F.ONES m up down }
 {
+    let precision = F::PRECISION;
+    let ones = F::ONES;
     let infinity = ones << (precision - 1);
     if 64 + up <= down + precision {
-        let digits = shift_to_nearest(m, down - up);
-        if digits < infinity { digits } else { infinity }
-    } else {
-        let field = 64 + up - (down + precision);
-        if field >= ones {
-            return infinity;
-        }
-        let magnitude = (field << (precision - 1)) + shift_to_nearest(m, 64 - precision);
-        if magnitude < infinity {
-            magnitude
-        } else {
-            infinity
-        }
+        return shift_to_nearest(m, down - up).min(infinity);
     }
+    let field = 64 + up - (down + precision);
+    if field >= ones {
+        return infinity;
+    }
+    let magnitude = (field << (precision - 1)) + shift_to_nearest(m, 64 - precision);
+    magnitude.min(infinity)
 }

@@ -1,6 +1,6 @@
-// The places of the lent scratch, layer by layer, and their readers and writers.
-// Reading past the end gives 0 and writing there changes nothing, so no reader or writer has a bound to keep; `place` has one.
-ghost use Rattle.std.specs.Prelude.{◌≡◌, ◌≤◌, get_or, set};
+// The places of the lent scratch, layer by layer, a reader of the marks and a writer of both.
+// Reading past the end gives 0 and writing there changes nothing, so neither has a bound to keep; `place` has one.
+ghost use Rattle.std.specs.Prelude.{◌≡◌, ◌≤◌, set};
 ghost use Rattle.plan_rules.specs.Scratch.{counts_named, marks_named, place, remembered_place, count_place, is_marked};
 
 // ---- Places
@@ -24,10 +24,7 @@ pub fn remembered_place(cells: u32, depth: u32, cell: u32) -> usize
 pub fn count_place(cells: u32, depth: u32, cell: u32) -> usize
     ensures { result ≡ count_place cells depth cell }
 {
-    if depth == 0 {
-        return place(cells, 0, cell);
-    }
-    place(cells, (depth as usize) - 1, cell)
+    place(cells, (depth as usize).saturating_sub(1), cell)
 }
 
 // ---- How many places a plan names. No product wraps: (2^32 - 1) * (2^32 + 1) is 2^64 - 1.
@@ -44,44 +41,19 @@ pub fn marks_named(cells: u32, depth: u32) -> usize
     (cells as usize) * ((depth as usize) + 2)
 }
 
-// ---- Readers and writers
-
-fn mark_at(marks: &[u8], place: usize) -> u8
-    ensures { result ≡ get_or marks.now place 0 }
-{
-    if place < marks.len() {
-        return marks[place];
-    }
-    0
-}
+// ---- A reader of the marks, and a writer of both
 
 pub fn is_marked(marks: &[u8], place: usize) -> bool
     ensures { result ≡ is_marked marks.now place }
 {
-    mark_at(marks, place) != 0
+    marks.get(place).copied().unwrap_or(0) != 0
 }
 
-pub fn set_mark(marks: &mut [u8], place: usize, value: u8)
-    ensures { marks.new ≡ set marks.old place value }
+// Kept: an `if` and no `get_mut` (c): of what is written through that, a proof knows the length alone.
+pub fn set<T: Copy>(places: &mut [T], place: usize, value: T)
+    ensures { places.new ≡ set places.old place value }
 {
-    if place < marks.len() {
-        marks[place] = value;
-    }
-}
-
-pub fn count_at(counts: &[u64], place: usize) -> u64
-    ensures { result ≡ get_or counts.now place 0 }
-{
-    if place < counts.len() {
-        return counts[place];
-    }
-    0
-}
-
-pub fn set_count(counts: &mut [u64], place: usize, value: u64)
-    ensures { counts.new ≡ set counts.old place value }
-{
-    if place < counts.len() {
-        counts[place] = value;
+    if place < places.len() {
+        places[place] = value;
     }
 }

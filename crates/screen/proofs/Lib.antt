@@ -1,6 +1,6 @@
--- Facts about the definitions of specs/.
---     Collapse    the first test that a reference meets
---     Opened      one name that opens every definition, to compute with
+-- Names that open definitions, to compute with.
+--     Patterns    opens the patterns of the code's constants
+--     Opened      opens every definition
 -- Assumes nothing.
-mod Collapse
+pub mod Patterns
 pub mod Opened

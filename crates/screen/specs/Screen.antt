@@ -2,7 +2,7 @@
 -- the tests of `visit_reference` and `push_geometry`) and drawable.rs (`should_collapse_reference`).
 -- "Float narrowing and count-to-float round to nearest, ties to even."
 -- Definitions only. Assumes nothing.
-use Rattle.std.specs.Prelude.{Bool, true, false, not, cond, ◌&&◌, ◌||◌, ℕ, leb, ltb, pos, Float}
+use Rattle.std.specs.Prelude.{Bool, false, not, cond, ◌&&◌, ◌||◌, Option, Some, None, is_some, ℕ, leb, ltb, pos, Float}
 use Rattle.std.specs.Float.{fin, binary32}
 use Rattle.std.specs.Float.Ieee.{mul, div, of_int, lt, le}
 use Rattle.rounding.specs.Narrow.{narrow}
@@ -77,22 +77,22 @@ is_dense s n = average_area_within s n ref_load_min_avg_instance_area_px
 unfoldable pub is_dense_batch : ScreenSize → ℕ → Bool
 is_dense_batch s elements = leb dense_batch_min_elements elements && average_area_within s elements min_average_element_area_px
 
--- The tests of `should_collapse_reference` in its order: the first that is met, if any is.
--- Width, height, members of the grid, draw units, depth, and whether a box is asked for.
-unfoldable pub collapse_test : Float → Float → ℕ → ℕ → ℕ → Bool → CollapseTest
-collapse_test w h members units depth force =
-    cond (force || leb depth 1) test.Depth
-    (cond (lt w ref_load_threshold_px || lt h ref_load_threshold_px) test.Side
-    (cond (ltb ref_max_grid_expansion members) test.Grid
-    (cond (ltb units ref_dense_grid_min_instances) test.Passed
-    (cond (is_dense (size w h) units) test.Density test.Passed))))
+-- the first test that is met, if any is
+abbrev pub FirstMet : Type 0
+FirstMet = Option CollapseTest
 
-abbrev pub collapses : CollapseTest → Bool
-collapses test.Passed = false
-collapses test.Depth = true
-collapses test.Side = true
-collapses test.Grid = true
-collapses test.Density = true
+-- The tests of `should_collapse_reference` in its order.
+-- Width, height, members of the grid, draw units, depth, and whether a box is asked for.
+unfoldable pub collapse_test : Float → Float → ℕ → ℕ → ℕ → Bool → FirstMet
+collapse_test w h members units depth force =
+    cond (force || leb depth 1) (Some test.Depth)
+    (cond (lt w ref_load_threshold_px || lt h ref_load_threshold_px) (Some test.Side)
+    (cond (ltb ref_max_grid_expansion members) (Some test.Grid)
+    (cond (ltb units ref_dense_grid_min_instances) None
+    (cond (is_dense (size w h) units) (Some test.Density) None))))
+
+abbrev pub collapses : FirstMet → Bool
+collapses = is_some
 
 unfoldable pub should_collapse_reference : Float → Float → ℕ → ℕ → ℕ → Bool → Bool
 should_collapse_reference w h members units depth force = collapses (collapse_test w h members units depth force)

@@ -5,7 +5,7 @@
 #![tactic(auto)]
 
 ghost use Rattle.std.specs.Prelude.{◌≡◌};
-ghost use Rattle.screen.specs.Screen.{wide_side, screen_size, reference_screen_size, is_subpixel, average_area_within, is_dense, is_dense_batch, collapse_test, collapses};
+ghost use Rattle.screen.specs.Screen.{wide_side, screen_size, reference_screen_size, is_subpixel, average_area_within, is_dense, is_dense_batch, collapse_test};
 
 use geometry::bbox::WorldBBox;
 
@@ -33,22 +33,21 @@ pub struct ScreenSize {
 fn wide_side(min: f64, max: f64, zoom: f64) -> f64
     ensures { result ≡ wide_side min max zoom }
 {
-    floats::order::f64_abs(max - min) * zoom
+    (max - min).abs() * zoom
 }
 
 // The short form of narrowing is inlined where both sides take it; else the general function is called.
+#[tactic(auto, unfolding(crate::specs::Screen::screen_size, crate::specs::Screen::side))]
 pub fn screen_size(bbox: WorldBBox, zoom: f64) -> ScreenSize
     ensures { result ≡ screen_size bbox zoom }
 {
     let width = wide_side(bbox.min_x, bbox.max_x, zoom);
     let height = wide_side(bbox.min_y, bbox.max_y, zoom);
-    if rounding::narrows_to_normal(width) {
-        if rounding::narrows_to_normal(height) {
-            return ScreenSize {
-                width: rounding::narrow_normal(width),
-                height: rounding::narrow_normal(height),
-            };
-        }
+    if rounding::narrows_to_normal(width) && rounding::narrows_to_normal(height) {
+        return ScreenSize {
+            width: rounding::narrow_normal(width),
+            height: rounding::narrow_normal(height),
+        };
     }
     ScreenSize {
         width: rounding::f64_to_f32(width),
@@ -57,14 +56,15 @@ pub fn screen_size(bbox: WorldBBox, zoom: f64) -> ScreenSize
 }
 
 // Content of a fixed size, as a text, counts as 24 px at least.
+#[tactic(auto, unfolding(crate::specs::Screen::reference_screen_size, crate::proofs::Patterns::patterns))]
 pub fn reference_screen_size(bbox: WorldBBox, zoom: f64, source_is_degenerate: bool) -> ScreenSize
     ensures { result ≡ reference_screen_size bbox zoom source_is_degenerate }
 {
     let size = screen_size(bbox, zoom);
     if source_is_degenerate {
         return ScreenSize {
-            width: floats::order::f32_max(size.width, MIN_FIXED_CONTENT_PX),
-            height: floats::order::f32_max(size.height, MIN_FIXED_CONTENT_PX),
+            width: floats::order::max(size.width, MIN_FIXED_CONTENT_PX),
+            height: floats::order::max(size.height, MIN_FIXED_CONTENT_PX),
         };
     }
     size
@@ -75,20 +75,20 @@ pub fn reference_screen_size(bbox: WorldBBox, zoom: f64, source_is_degenerate: b
 pub fn is_subpixel(size: ScreenSize) -> bool
     ensures { result ≡ is_subpixel size }
 {
-    !floats::order::f32_is_finite(size.width)
-        || !floats::order::f32_is_finite(size.height)
-        || (size.width < 1.0 && size.height < 1.0)
+    !size.width.is_finite() || !size.height.is_finite() || (size.width < 1.0 && size.height < 1.0)
 }
 
 // The area is finite and leaves at most `limit` square pixels to each of `count`, all in f32.
+#[tactic(auto, unfolding(crate::specs::Screen::average_area_within))]
 fn average_area_within(size: ScreenSize, count: u64, limit: f32) -> bool
     ensures { result ≡ average_area_within size count limit }
 {
     let area_px = size.width * size.height;
-    floats::order::f32_is_finite(area_px) && area_px / rounding::u64_to_f32(count) <= limit
+    area_px.is_finite() && area_px / rounding::u64_to_f32(count) <= limit
 }
 
 // The last test of `should_collapse_reference`.
+#[tactic(auto, unfolding(crate::specs::Screen::is_dense, crate::proofs::Patterns::patterns))]
 fn is_dense(size: ScreenSize, count: u64) -> bool
     ensures { result ≡ is_dense size count }
 {
@@ -96,6 +96,7 @@ fn is_dense(size: ScreenSize, count: u64) -> bool
 }
 
 // The test of `push_geometry`.
+#[tactic(auto, unfolding(crate::specs::Screen::is_dense_batch, crate::proofs::Patterns::patterns))]
 pub fn is_dense_batch(size: ScreenSize, element_count: u32) -> bool
     ensures { result ≡ is_dense_batch size element_count }
 {
@@ -104,57 +105,39 @@ pub fn is_dense_batch(size: ScreenSize, element_count: u32) -> bool
 }
 
 // Which test of `should_collapse_reference` sends a reference to a box.
-#[derive(Clone, Copy)]
+#[derive(Clone, Copy, PartialEq, Eq)]
 pub enum CollapseTest {
-    Passed,
     Depth,
     Side,
     Grid,
     Density,
 }
 
-// `should_collapse_reference`, naming the first test that is met.
+// `should_collapse_reference`, naming the first test that is met, if any is.
+#[tactic(auto, unfolding(crate::specs::Screen::collapse_test, crate::proofs::Patterns::patterns))]
 pub fn collapse_test(
-    width_px: f32,
-    height_px: f32,
+    size: ScreenSize,
     grid_count: u64,
     draw_unit_count: u64,
     reference_depth: u32,
     force_bbox: bool,
-) -> CollapseTest
-    ensures { result ≡ collapse_test width_px height_px grid_count draw_unit_count reference_depth force_bbox }
+) -> Option<CollapseTest>
+    ensures { result ≡ collapse_test size.width size.height grid_count draw_unit_count reference_depth force_bbox }
 {
     if force_bbox || reference_depth <= 1 {
-        return CollapseTest::Depth;
+        return Some(CollapseTest::Depth);
     }
-    if width_px < REF_LOAD_THRESHOLD_PX || height_px < REF_LOAD_THRESHOLD_PX {
-        return CollapseTest::Side;
+    if size.width < REF_LOAD_THRESHOLD_PX || size.height < REF_LOAD_THRESHOLD_PX {
+        return Some(CollapseTest::Side);
     }
     if grid_count > REF_MAX_GRID_EXPANSION {
-        return CollapseTest::Grid;
+        return Some(CollapseTest::Grid);
     }
     if draw_unit_count < REF_DENSE_GRID_MIN_INSTANCES {
-        return CollapseTest::Passed;
+        return None;
     }
-    let size = ScreenSize {
-        width: width_px,
-        height: height_px,
-    };
     if is_dense(size, draw_unit_count) {
-        return CollapseTest::Density;
+        return Some(CollapseTest::Density);
     }
-    CollapseTest::Passed
-}
-
-// Whether a test sends the reference to a box.
-pub fn collapses(test: CollapseTest) -> bool
-    ensures { result ≡ collapses test }
-{
-    match test {
-        CollapseTest::Passed => false,
-        CollapseTest::Depth => true,
-        CollapseTest::Side => true,
-        CollapseTest::Grid => true,
-        CollapseTest::Density => true,
-    }
+    None
 }

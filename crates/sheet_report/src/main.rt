@@ -9,66 +9,75 @@
 
 ghost use Rattle.std.specs.Prelude.{◌<◌, ◌^◌};
 
-use check_sheet::{Checked, Counts};
+use check_sheet::Counts;
 use std::io::{Eprint, Read, Write};
-use streams::{Input, Printer};
+use streams::{NotWhole, Printer, ReadError};
 
-// A blank and a number.
-fn say_number<W: Write, E: Eprint>(to: &mut Printer<W, E>, going: bool, n: u64) -> bool {
-    let going = streams::print(to, going, b" ");
-    streams::print_number(to, going, n)
+// A word and numbers, a blank before each.
+fn print_line<W: Write, E: Eprint>(
+    to: &mut Printer<W, E>,
+    word: &[u8],
+    numbers: &[u64],
+) -> Result<(), NotWhole> {
+    to.print(word)?;
+    for number in numbers {
+        to.print(b" ")?;
+        to.print_number(*number)?;
+    }
+    to.print(b"\n")
 }
 
-fn say_sound<W: Write, E: Eprint>(to: &mut Printer<W, E>, counts: Counts) {
-    let going = streams::print(to, true, b"sound");
-    let going = say_number(to, going, counts.geometries as u64);
-    let going = say_number(to, going, counts.texts as u64);
-    let going = say_number(to, going, counts.nodes as u64);
-    let going = say_number(to, going, counts.references as u64);
-    let going = say_number(to, going, counts.cells as u64);
-    streams::print(to, going, b"\n");
+fn print_sound<W: Write, E: Eprint>(
+    to: &mut Printer<W, E>,
+    counts: Counts,
+) -> Result<(), NotWhole> {
+    let numbers = [
+        counts.geometries as u64,
+        counts.texts as u64,
+        counts.nodes as u64,
+        counts.references as u64,
+        counts.cells as u64,
+    ];
+    print_line(to, b"sound", &numbers)
 }
 
-fn say_refused<W: Write, E: Eprint>(to: &mut Printer<W, E>, number: u32, offset: usize) {
-    let going = streams::print(to, true, b"refused");
-    let going = say_number(to, going, number as u64);
-    let going = say_number(to, going, offset as u64);
-    streams::print(to, going, b"\n");
-}
-
-fn report<W: Write, E: Eprint>(to: &mut Printer<W, E>, input: &[u8]) {
+fn report<W: Write, E: Eprint>(to: &mut Printer<W, E>, input: &[u8]) -> Result<(), NotWhole> {
     let sheet = plan_query::sheet_at(input);
     match check_sheet::check_sheet(&input[sheet..]) {
-        Checked::Sound(counts) => say_sound(to, counts),
-        Checked::Refused(number, offset) => say_refused(to, number, offset),
+        Ok(counts) => print_sound(to, counts),
+        Err(error) => print_line(
+            to,
+            b"refused",
+            &[error.number() as u64, error.offset() as u64],
+        ),
     }
 }
 
-fn run<R: Read, W: Write, E: Eprint>(from: &mut R, to: &mut Printer<W, E>, buffer: &mut [u8]) {
+fn run<R: Read, W: Write, E: Eprint>(
+    from: &mut R,
+    to: &mut Printer<W, E>,
+    buffer: &mut [u8],
+) -> Result<(), NotWhole> {
     match streams::read_to_end(from, &to.errors, buffer) {
-        Input::Whole(size) => report(to, &buffer[..size]),
-        Input::TooLong => {
-            streams::print(to, true, b"too long\n");
-        }
-        Input::Unreadable => {
-            streams::print(to, true, b"unreadable\n");
-        }
+        Ok(size) => report(to, &buffer[..size]),
+        Err(ReadError::TooLong) => to.print(b"too long\n"),
+        Err(ReadError::Unreadable) => to.print(b"unreadable\n"),
     }
 }
 
 // Lends a buffer of so many bytes: one that an input fills is too long for it.
-fn lend<R: Read, W: Write, E: Eprint, const SIZE: usize>(from: &mut R, to: &mut Printer<W, E>)
+fn lend<R: Read, W: Write, E: Eprint, const SIZE: usize>(
+    from: &mut R,
+    to: &mut Printer<W, E>,
+) -> Result<(), NotWhole>
     requires { SIZE < 2 ^ 63 }
 {
     let mut buffer = [0u8; SIZE];
-    run(from, to, &mut buffer);
+    run(from, to, &mut buffer)
 }
 
-// An input of 7,340,032 bytes fits.
+// An input of 7,340,032 bytes fits. Where a write failed, that was said.
 fn main(rt: HostRuntime) {
-    let mut to = Printer {
-        out: rt.stdout(),
-        errors: rt.stderr(),
-    };
-    lend::<_, _, _, 7340033>(&mut rt.stdin(), &mut to);
+    let mut to = Printer::new(rt.stdout(), rt.stderr());
+    let _ = lend::<_, _, _, 7340033>(&mut rt.stdin(), &mut to);
 }

@@ -11,8 +11,7 @@ use Rattle.std.specs.declared.io.ErrorKind.{ErrorKind}
 use Rattle.std.specs.declared.io.ErrorKind.TheVariants as kind
 use Rattle.std.specs.Io.KnownBytes.{Appends, Consumes, WriteAppends, ReadConsumes}
 use Rattle.streams.specs.declared.moved.Moved.TheVariants.{Bytes, Nothing}
-use Rattle.streams.specs.declared.input.Input.{Input}
-use Rattle.streams.specs.declared.input.Input.TheVariants.{Whole}
+use Rattle.streams.specs.declared.input.ReadError.{ReadError}
 use Rattle.streams.specs.Moving.{unmoved_of_kind, moved_of, Moves, Within}
 
 -- no error moves bytes
@@ -47,5 +46,5 @@ consumes_more old mid new before after got done n is same was more =
     rw take-add (Consumes-trans _ _ _ _ _ first now)
 
 -- a whole input lies within the buffer
-pub whole_within : {r : Input} {size : ℕ} (buffer : List ℕ) → Within r buffer → r ≡ Whole size → size ≤ length buffer
-whole_within {r} {size} buffer within is = let h : size < length buffer = subst (λ (x : Input). Within x buffer) is within in omega (arith, h)
+pub whole_within : {r : Result ℕ ReadError} {size : ℕ} (buffer : List ℕ) → Within r buffer → r ≡ Ok size → size ≤ length buffer
+whole_within {r} {size} buffer within is = let h : size < length buffer = subst (λ (x : Result ℕ ReadError). Within x buffer) is within in omega (arith, h)

@@ -8,8 +8,8 @@ use Rattle.std.specs.declared.io.ErrorKind.{ErrorKind}
 use Rattle.std.specs.declared.io.ErrorKind.TheVariants as kind
 use Rattle.streams.specs.declared.moved.Moved.{Moved}
 use Rattle.streams.specs.declared.moved.Moved.TheVariants.{Bytes, Nothing, Interrupted, Failed}
-use Rattle.streams.specs.declared.input.Input.{Input}
-use Rattle.streams.specs.declared.input.Input.TheVariants.{Whole, TooLong, Unreadable}
+use Rattle.streams.specs.declared.input.ReadError.{ReadError}
+use Rattle.streams.specs.declared.input.ReadError.TheVariants.{TooLong, Unreadable}
 
 -- an error of the kind: interrupted, or failed
 abbrev pub unmoved_of_kind : ErrorKind → Moved
@@ -33,20 +33,19 @@ Moves done size Interrupted = Unit {0}
 Moves done size Failed = Unit {0}
 
 -- the input after so many bytes, by the answer that ended its reading: only the end makes it whole
-abbrev pub input_of : Moved → ℕ → Input
-input_of Nothing done = Whole done
-input_of (Bytes n) done = Unreadable
-input_of Interrupted done = Unreadable
-input_of Failed done = Unreadable
+abbrev pub input_of : Moved → ℕ → Result ℕ ReadError
+input_of Nothing done = Ok done
+input_of (Bytes n) done = Err Unreadable
+input_of Interrupted done = Err Unreadable
+input_of Failed done = Err Unreadable
 
 -- a whole input lies within the buffer, and leaves room: its end was seen
-abbrev pub Within : Input → List ℕ → Type 0
-Within (Whole size) buffer = size < length buffer
-Within TooLong buffer = Unit {0}
-Within Unreadable buffer = Unit {0}
+abbrev pub Within : Result ℕ ReadError → List ℕ → Type 0
+Within (Ok size) buffer = size < length buffer
+Within (Err _) buffer = Unit {0}
 
 -- where what a reader has left is known: a whole input is all of it, and one that is too long begins with what fills the buffer
-abbrev pub Reads : Option (List ℕ) → Input → List ℕ → Type 0
-Reads known (Whole size) buffer = IfSome known (λ xs. take size buffer ≡ xs)
-Reads known TooLong buffer = IfSome known (λ xs. take (length buffer) xs ≡ buffer)
-Reads known Unreadable buffer = Unit {0}
+abbrev pub Reads : Option (List ℕ) → Result ℕ ReadError → List ℕ → Type 0
+Reads known (Ok size) buffer = IfSome known (λ xs. take size buffer ≡ xs)
+Reads known (Err TooLong) buffer = IfSome known (λ xs. take (length buffer) xs ≡ buffer)
+Reads known (Err Unreadable) buffer = Unit {0}

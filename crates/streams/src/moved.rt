@@ -1,11 +1,12 @@
 // What an answer to a `read` or a `write` means.
 ghost use Rattle.std.specs.Prelude.{◌≡◌};
-ghost use Rattle.streams.specs.Moving.{unmoved_of, moved_of};
+ghost use Rattle.streams.specs.Moving.{moved_of};
 
-use std::io::{Error, ErrorKind, Result};
+use std::io::{ErrorKind, Result};
 
 // So many bytes moved; none, which is a read's end; interrupted before a byte was moved; or failed.
-#[derive(Clone, Copy)]
+// Kept: beside `io::Result`, of which it is the meaning: `moved_of` and `input_of` (docs/TRUST.md) are stated on its cases.
+#[derive(Clone, Copy, Debug, PartialEq, Eq)]
 pub(crate) enum Moved {
     Bytes(usize),
     Nothing,
@@ -16,23 +17,15 @@ pub(crate) enum Moved {
 // A call that is interrupted so often has failed: a proved loop has to end, and nothing says that interruptions do.
 pub(crate) const TRIES: u32 = 1_000_000;
 
-// The meaning of an error.
-fn unmoved(error: Error) -> Moved
-    ensures { result ≡ unmoved_of error }
-{
-    if error.kind() == ErrorKind::Interrupted {
-        return Moved::Interrupted;
-    }
-    Moved::Failed
-}
+impl From<Result<usize>> for Moved {
+    ghost from_gives = { λ got moved. moved ≡ moved_of got };
 
-// The meaning of an answer.
-pub(crate) fn meaning(got: Result<usize>) -> Moved
-    ensures { result ≡ moved_of got }
-{
-    match got {
-        Ok(0) => Moved::Nothing,
-        Ok(count) => Moved::Bytes(count),
-        Err(error) => unmoved(error),
+    fn from(got: Result<usize>) -> Moved {
+        match got {
+            Ok(0) => Moved::Nothing,
+            Ok(count) => Moved::Bytes(count),
+            Err(error) if error.kind() == ErrorKind::Interrupted => Moved::Interrupted,
+            Err(_) => Moved::Failed,
+        }
     }
 }

@@ -28,7 +28,7 @@ use Rattle.plan_rules.specs.World.{Query, hides, detail_cells_full, detail_budge
 use Rattle.plan_rules.specs.Scratch.{open_place, is_marked}
 use Rattle.plan_rules.specs.DrawUnits.{Units, reference_draw_units}
 use Rattle.plan_rules.specs.Push.{say, add_load, add_load_if_boxed, push_found_geometry, push_geometry, push_found_text, push_text, push_point, push_found_node, push_node}
-use Rattle.plan_rules.specs.Visit.{source_units, collapse_reason, halt_with_cell, halt_with_member, with_scratch, VisitReference, VisitSource, geometry_step, text_step, node_step, reference_step, cell_body, visit_found_cell, visit_source_with, member_step, column_step, visit_counted_reference, visit_boxed_reference, visit_sourced_reference, visit_found_reference, visit_reference, visit_cell}
+use Rattle.plan_rules.specs.Visit.{source_units, box_reason, halt_with_cell, halt_with_member, with_scratch, VisitReference, VisitSource, geometry_step, text_step, node_step, reference_step, cell_body, visit_found_cell, visit_source_with, member_step, column_step, visit_counted_reference, visit_boxed_reference, visit_sourced_reference, visit_found_reference, visit_reference, visit_cell}
 use Rattle.plan_rules.specs.Plan.{load_root_box, load_root, visit_root}
 use Rattle.plan_rules.specs.Tape.{no_tag, note}
 use Rattle.totals.specs.Proxies.{dropped_proxies, most_dropped}
@@ -215,7 +215,7 @@ module _ (S : Sheet) (cells : ℕ) (q : Query) where
           let test = collapse_test size.width size.height (grid_count r.grid) u.units depth false in
           after_same {u = w} refl
           (cond_adds (collapses test) _ _
-          (load_free (collapse_reason test) (label r.source) wb (with_scratch no_tag note u w) h)
+          (load_free (box_reason test) (label r.source) wb (with_scratch no_tag note u w) h)
           (ending_adds g (members (with_scratch no_tag note u w)) ((each_unwinds _ (λ x. each_unwinds _ (member_unwinds share x) r.grid.rows 0) r.grid.columns 0).free (with_scratch no_tag note u w) h)))
 
   -- ---- the visits

@@ -10,9 +10,8 @@ use lib.Dec.{leb, eqb, ltb→lt}
 use lib.Dec.{T as Yes}
 use borrow.Author.Tests.{le-leb, leb-false}
 use Rattle.abstract_sheet.specs.Sheet.{Sheet, sheet_of}
-use Rattle.check_sheet.specs.declared.Checked.{Checked}
-use Rattle.check_sheet.specs.declared.Checked.TheVariants as checked
-use Rattle.check_sheet.specs.Check.{check_sheet}
+use Rattle.std.specs.Prelude.{Ok, Err}
+use Rattle.check_sheet.specs.Check.{Checked, check_sheet}
 use Rattle.plan_rules.specs.declared.ScenePlan.{ScenePlan}
 use Rattle.plan_rules.specs.Limits.{max_depth, max_scene_objects, max_text_instances, max_load_proxies}
 use Rattle.plan_rules.specs.Event.{Event, batch, text, point, proxy, dropped_proxy, skipped_member, skipped_batch, culled_reference, culled_batch, detail_cell, totals, ◌⊞◌, empty_plan, amounts, after}
@@ -128,8 +127,8 @@ unfolding outcome_up_to
 tape_at_most s q o k m few = by (check_sheet s)
   where
     by : (c : Checked) → Short (checked_outcome_up_to max_depth c (sheet_of s) q o k m)
-    by (checked.Refused number offset) = omega arith
-    by (checked.Sound c) = sound_short (sheet_of s) c.cells q o k m few
+    by (Err e) = omega arith
+    by (Ok c) = sound_short (sheet_of s) c.cells q o k m few
 
 pub enough_output : EnoughOutput
 enough_output s counts q o k m few enough sound passed =

@@ -2,7 +2,7 @@
 -- Definitions only; rests on the outcome of a call. Proofs: `TapeLength` in proofs/.
 use Rattle.std.specs.Prelude.{◌≡◌, List, ℕ, ◌≤◌, length}
 use Rattle.check_sheet.specs.declared.Counts.{Counts}
-use Rattle.check_sheet.specs.declared.Checked.TheVariants.{Sound}
+use Rattle.std.specs.Prelude.{Ok}
 use Rattle.check_sheet.specs.Check.{check_sheet}
 use Rattle.plan_rules.specs.Limits.{max_scene_objects}
 use Rattle.plan_rules.specs.World.{Query}
@@ -20,4 +20,4 @@ TapeAtMost = (s : List ℕ) (q : Query) (o k m : List ℕ) → q.object_limit �
 -- So with an output of this length question 12 is answered yes wherever questions 1 to 11 are.
 abbrev pub EnoughOutput : Type 0
 EnoughOutput = (s : List ℕ) (counts : Counts) (q : Query) (o k m : List ℕ) → q.object_limit ≤ max_scene_objects → most_tape ≤ length o
-    → check_sheet s ≡ Sound counts → query_refusal q.view q.zoom q.depth counts.cells (length k) (length m) ≡ 0 → (outcome_of s q o k m).number ≡ 0
+    → check_sheet s ≡ Ok counts → query_refusal q.view q.zoom q.depth counts.cells (length k) (length m) ≡ 0 → (outcome_of s q o k m).number ≡ 0

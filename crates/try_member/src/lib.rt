@@ -9,72 +9,59 @@ ghost use Rattle.try_member.specs.Left.{TriesMember};
 
 use geometry::bbox::WorldBBox;
 use geometry::placement::Placement;
+use open_reference::OpenReference;
 use plan_rules::{Fixed, Reason, ScenePlan};
-use records::{NO_LABEL, PreparedReference};
+use records::NO_LABEL;
 
-// The plan so far; whether the member's source is to be visited, with the member's placement and box; if not, whether the visit of the reference goes on.
+// What is left of a member's turn: the visit of its source at the member's placement, of which the box is asked where a limit stops it;
+// or nothing, and the visit of the reference goes on or is over.
 #[derive(Clone, Copy)]
-pub struct Tried {
-    pub plan: ScenePlan,
-    pub opens: bool,
-    pub whole: bool,
-    pub placement: Placement,
-    pub bbox: WorldBBox,
+pub enum Tried {
+    Opens {
+        placement: Placement,
+        bbox: WorldBBox,
+    },
+    Passed(ScenePlan),
+    Halted(ScenePlan),
 }
 
-// Member i, which stands in column i / rows and row i % rows; `units` is one member's share of the draw units.
+// Member i, which stands in column i / rows and row i % rows; `share` is one member's part of the draw units.
 pub fn try_member(
     fixed: Fixed,
     out: &mut [u8],
     plan: ScenePlan,
-    reference: PreparedReference,
-    transform: Placement,
-    source_bbox: WorldBBox,
-    world_bbox: WorldBBox,
-    units: u64,
+    reference: &OpenReference<'_>,
+    share: u64,
     i: u64,
     depth: u32,
 ) -> Tried
-    requires { i < grid_count reference.grid }
-    ensures { TriesMember fixed reference transform source_bbox world_bbox units i depth result out.exit plan out.entry }
+    requires { i < grid_count reference.now.record.now.grid }
+    ensures { TriesMember fixed reference.now share i depth result out.exit plan out.entry }
 {
-    let grid = reference.grid;
+    let grid = reference.record.grid;
     let rows = grid.rows as u64;
     let column = (i / rows) as u32;
     let row = (i % rows) as u32;
-    let member_transform = transform.mul(grid::grid_member_transform(grid, column, row));
-    let bbox = geometry::bbox::transform_bbox(member_transform, source_bbox);
-    let source = reference.source;
-    let label = records::label(source);
-    let mut tried = Tried {
-        plan,
-        opens: false,
-        whole: true,
-        placement: member_transform,
-        bbox,
-    };
+    let placement = reference.transform * grid::grid_member_transform(grid, column, row);
+    let bbox = geometry::bbox::transform_bbox(placement, reference.source_bbox);
+    let label = records::label(reference.record.source);
     if limits::detail_budget_exhausted(fixed, plan) {
-        tried.plan = events::add_load(out, plan, Reason::OtherLimit, label, world_bbox);
-        tried.whole = false;
-        return tried;
+        let boxed = events::add_load(out, plan, Reason::OtherLimit, label, reference.world_bbox);
+        return Tried::Halted(boxed);
     }
     if !bbox.overlaps(fixed.options.view) {
-        tried.plan = events::count_culled_reference(plan);
-        return tried;
+        return Tried::Passed(events::count_culled_reference(plan));
     }
-    let degenerate = geometry::bbox::source_is_degenerate(source_bbox);
+    let degenerate = geometry::bbox::source_is_degenerate(reference.source_bbox);
     let size = screen::reference_screen_size(bbox, fixed.options.zoom, degenerate);
     if screen::is_subpixel(size) {
-        tried.plan = events::count_skipped_member(plan);
-        return tried;
+        return Tried::Passed(events::count_skipped_member(plan));
     }
-    let test = screen::collapse_test(size.width, size.height, 1, units, depth, false);
-    if screen::collapses(test) {
-        tried.plan = events::add_load(out, plan, events::collapse_reason(test), label, bbox);
-        return tried;
+    if let Some(test) = screen::collapse_test(size, 1, share, depth, false) {
+        let boxed = events::add_load(out, plan, events::collapse_reason(test), label, bbox);
+        return Tried::Passed(boxed);
     }
-    tried.opens = true;
-    tried
+    Tried::Opens { placement, bbox }
 }
 
 // The member's box, and then the whole reference's, which has no label.

@@ -9,8 +9,8 @@ use Prim.Native.Nat.{ℕ, ◌-◌, ◌≤◌, ◌<◌}
 use lib.ListN.{get_or, set}
 use borrow.Author.Tests.{lt-leb, le-leb, eq-eqb, ne_eqb}
 use Rattle.grid.specs.Grid.{grid_count}
-use Rattle.walk.specs.declared.Found.{Found}
-use Rattle.walk.specs.declared.Found.TheVariants.{At, Nothing}
+use Rattle.walk.specs.Find.{Found}
+use Rattle.std.specs.Prelude.{Some, None}
 use Rattle.records.specs.declared.PreparedSource.{PreparedSource}
 use Rattle.records.specs.declared.PreparedSource.TheVariants.{Geometry, Text, Node, Reference, Cell}
 use Rattle.records.specs.declared.PreparedReference.{PreparedReference}
@@ -48,10 +48,10 @@ module _ (s f : List ℕ) (kinds : Counts) (depth : ℕ) (r : PreparedReference)
 -- ---- a reference by number
 
 module _ (s f : List ℕ) (kinds : Counts) (depth number : ℕ) (k m : List ℕ) where
-  pub number_missing : {found : Found} → found ≡ look s f kinds 4 number → found ≡ Nothing → counted 0 k m ≡ numbered_draw_units (sheet_with s f kinds) kinds.cells depth number k m
+  pub number_missing : {found : Found} → found ≡ look s f kinds 4 number → found ≡ None → counted 0 k m ≡ numbered_draw_units (sheet_with s f kinds) kinds.cells depth number k m
   number_missing looked told = sym (Paths.units_missing (sheet_with s f kinds) kinds.cells depth number k m (item_looked references s f kinds number looked told))
 
-  pub number_found : {found : Found} → found ≡ look s f kinds 4 number → (at : ℕ) → found ≡ At at → (r : PreparedReference) → r ≡ reference_at s at
+  pub number_found : {found : Found} → found ≡ look s f kinds 4 number → (at : ℕ) → found ≡ Some at → (r : PreparedReference) → r ≡ reference_at s at
       → (u : Units) → u ≡ reference_draw_units (sheet_with s f kinds) kinds.cells depth r k m → u ≡ numbered_draw_units (sheet_with s f kinds) kinds.cells depth number k m
   number_found looked at told r read u e = e ∙ sym (Paths.units_found (sheet_with s f kinds) kinds.cells depth number k m r (item_looked references s f kinds number looked told ∙ ap some (sym read)))
 
@@ -88,10 +88,10 @@ unfolding add_reference_units cell_record_at
 reference_added s f kinds depth at i number count more sum k m k' m' read units sums = rw (← read, ← units, ← sums)
 
 module _ (s f : List ℕ) (kinds : Counts) (depth cell : ℕ) (k m : List ℕ) where
-  pub cell_missing : {found : Found} → found ≡ look s f kinds 5 cell → found ≡ Nothing → counted 1 k m ≡ cell_draw_units (sheet_with s f kinds) kinds.cells depth cell k m
+  pub cell_missing : {found : Found} → found ≡ look s f kinds 5 cell → found ≡ None → counted 1 k m ≡ cell_draw_units (sheet_with s f kinds) kinds.cells depth cell k m
   cell_missing looked told = sym (Paths.units_cell_missing (sheet_with s f kinds) kinds.cells depth cell k m (item_looked cells s f kinds cell looked told))
 
-  module _ {found : Found} (looked : found ≡ look s f kinds 5 cell) (at : ℕ) (told : found ≡ At at) where
+  module _ {found : Found} (looked : found ≡ look s f kinds 5 cell) (at : ℕ) (told : found ≡ Some at) where
     pub cell_depth_zero : depth ≡ 0 → counted 1 k m ≡ cell_draw_units (sheet_with s f kinds) kinds.cells depth cell k m
     cell_depth_zero h = sym (Paths.units_depth_zero (sheet_with s f kinds) kinds.cells depth cell k m (cell_record_at s at) (item_looked cells s f kinds cell looked told) (eq-eqb _ _ h))
 

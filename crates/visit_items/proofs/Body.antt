@@ -1,43 +1,59 @@
--- The loops of `visit_cell` before that over its references, by code path: where one of them halts, the visit is over.
+-- The lists of an open cell one after the other: by what each of them does, until one halts.
 -- Assumes nothing.
-use mathlib.Core.Path.{◌≡◌, sym, ap, ◌∙◌}
-use mathlib.Core.Bool.{Bool, true, false}
+use mathlib.Core.Path.{◌≡◌, refl, ap, ◌∙◌}
 use mathlib.Core.List.{List}
 use Prim.Native.Nat.{ℕ}
+use Rattle.std.specs.Prelude.{Result}
+use Rattle.std.specs.Borrow.{MutBor}
+use Rattle.records.specs.Records.{cell_geometry_at, cell_text_at, cell_node_at}
 use Rattle.abstract_sheet.specs.Sheet.{CellRecord}
+use Rattle.plan_rules.specs.declared.ScenePlan.{ScenePlan}
+use Rattle.plan_rules.specs.declared.Halted.{Halted}
 use Rattle.plan_rules.specs.declared.Fixed.{Fixed}
-use Rattle.plan_rules.specs.World.{Flow, go, halt, flow, each}
+use Rattle.plan_rules.specs.World.{Flow, go, bind, each, ending}
 use Rattle.plan_rules.specs.Visit as visit
-use Rattle.plan_rules.specs.OnTape.{Given, Output, VisitReference}
+use Rattle.plan_rules.specs.OnTape.{Given, Output, VisitReference, LeavesFlow, push_geometry, push_text, push_node, reference_step}
 use Rattle.visit_items.specs.declared.OpenCell.{OpenCell}
-use Rattle.visit_items.specs.Lists.{cell_geometries, cell_texts, cell_nodes, visit_references, visit_lists}
+use Rattle.visit_items.specs.Lists.{opened, cell_step, cell_list, cell_geometries, cell_texts, cell_nodes, cell_lists, visit_lists, LeavesReferences}
 
-flow_halts : (x : Bool) (v : Output) {f : Flow (List ℕ)} → flow x v ≡ f → x ≡ false → f ≡ halt v
-flow_halts x v e h = sym e ∙ ap (λ (b : Bool). flow b v) (h)
+module _ {f : Fixed} (g : Given f) (c : OpenCell) (s : List ℕ) where
+  abbrev list_geometries : Output → Flow (List ℕ)
+  list_geometries = cell_list g (λ n w. go (push_geometry g n c.transform w)) (cell_geometry_at s c.at) c c.record.geometries
 
-flow_goes : (x : Bool) (v : Output) {f : Flow (List ℕ)} → flow x v ≡ f → x ≡ true → f ≡ go v
-flow_goes x v e h = sym e ∙ ap (λ (b : Bool). flow b v) (h)
+  abbrev list_texts : Output → Flow (List ℕ)
+  list_texts = cell_list g (λ n w. go (push_text g n c.transform w)) (cell_text_at s c.at) c c.record.texts
 
-module _ {f : Fixed} (g : Given f) (c : OpenCell) (r : CellRecord) (on : VisitReference g) (w : Output) where
-  abbrev body : Output
-  body = visit_lists g c r on w
+  abbrev list_nodes : Output → Flow (List ℕ)
+  list_nodes = cell_list g (λ n w. push_node g n c.transform w) (cell_node_at s c.at) c c.record.nodes
 
-  module _ (x : Bool) (v : Output) (listed : flow x v ≡ cell_geometries g c r w) where
-    pub geometries_halt : x ≡ false → visit_references g c r on 0 v ≡ body
-    unfolding visit.cell_body each
-    geometries_halt h = rw (flow_halts x v listed h)
+  by_geometries : (w : Output) → list_geometries w ≡ cell_geometries g c (opened s c) w
+  unfolding cell_step visit.geometry_step
+  by_geometries w = refl
 
-    module _ (all : x ≡ true) (x₁ : Bool) (v₁ : Output) (listed₁ : flow x₁ v₁ ≡ cell_texts g c r v) where
-      pub texts_halt : x₁ ≡ false → visit_references g c r on 0 v₁ ≡ body
-      unfolding visit.cell_body each
-      texts_halt h = rw (flow_goes x v listed all, flow_halts x₁ v₁ listed₁ h)
+  by_texts : (w : Output) → list_texts w ≡ cell_texts g c (opened s c) w
+  unfolding cell_step visit.text_step
+  by_texts w = refl
 
-      module _ (all₁ : x₁ ≡ true) (x₂ : Bool) (v₂ : Output) (listed₂ : flow x₂ v₂ ≡ cell_nodes g c r v₁) where
-        pub nodes_halt : x₂ ≡ false → visit_references g c r on 0 v₂ ≡ body
-        unfolding visit.cell_body each
-        nodes_halt h = rw (flow_goes x v listed all, flow_goes x₁ v₁ listed₁ all₁, flow_halts x₂ v₂ listed₂ h)
+  by_nodes : (w : Output) → list_nodes w ≡ cell_nodes g c (opened s c) w
+  unfolding cell_step visit.node_step
+  by_nodes w = refl
 
-        pub all_listed : x₂ ≡ true → (count : ℕ) → count ≡ r.references.count → visit_references g c r on count v₂ ≡ body
-        unfolding visit.cell_body
-        all_listed h count read =
-            ap (λ (n : ℕ). visit_references g c r on n v₂) read ∙ (rw (flow_goes x v listed all, flow_goes x₁ v₁ listed₁ all₁, flow_goes x₂ v₂ listed₂ h))
+  module _ (w : Output) where
+    pub after_geometries : {x : Flow (List ℕ)} → x ≡ list_geometries w → bind (bind x (cell_texts g c (opened s c))) (cell_nodes g c (opened s c)) ≡ cell_lists g c (opened s c) w
+    after_geometries e = ap (λ (y : Flow (List ℕ)). bind (bind y (cell_texts g c (opened s c))) (cell_nodes g c (opened s c))) (e ∙ by_geometries w)
+
+    module _ {v : Output} (geometries : go v ≡ list_geometries w) where
+      pub after_texts : {x : Flow (List ℕ)} → x ≡ list_texts v → bind x (cell_nodes g c (opened s c)) ≡ cell_lists g c (opened s c) w
+      after_texts e = ap (λ (y : Flow (List ℕ)). bind y (cell_nodes g c (opened s c))) (e ∙ by_texts v) ∙ after_geometries geometries
+
+      pub after_nodes : {v₁ : Output} → go v₁ ≡ list_texts v → {x : Flow (List ℕ)} → x ≡ list_nodes v₁ → x ≡ cell_lists g c (opened s c) w
+      after_nodes {v₁ = v₁} texts e = e ∙ by_nodes v₁ ∙ after_texts texts
+
+-- all the lists by these three: the references follow where none of them halts
+module _ {f : Fixed} (g : Given f) (c : OpenCell) (r : CellRecord) where
+  pub with_references : {x : Flow (List ℕ)} (w : Output) → x ≡ cell_lists g c r w → (on : VisitReference g) → ending (bind x (each (reference_step g c.number r c.transform c.bounds on) r.references.count 0)) ≡ visit_lists g c r on w
+  unfolding visit.cell_body
+  with_references w e on = ap (λ (y : Flow (List ℕ)). ending (bind y (each (reference_step g c.number r c.transform c.bounds on) r.references.count 0))) e
+
+  pub leaves_references : (x : Result ScenePlan Halted) (out : MutBor (List ℕ)) (plan : ScenePlan) (before : MutBor (List ℕ)) → LeavesFlow x out (cell_lists g c r) plan before → LeavesReferences g c r x out plan before
+  leaves_references x out plan before leaves on k m = with_references _ (leaves k m) on

@@ -1,41 +1,41 @@
 -- Lists of numbers, and the loops of `visit_cell` for a cell that is open, at the code's end of the rules.
 -- Definitions only; rests on the rules.
-use Rattle.std.specs.Prelude.{◌≡◌, cond, List, ℕ, zero, suc, ◌+◌}
-use Rattle.std.specs.Borrow.{Bor, MutBor}
-use Rattle.geometry.specs.declared.placement.Placement.{Placement}
+use Rattle.std.specs.Prelude.{◌≡◌, cond, List, ℕ, eqb, Result}
+use Rattle.std.specs.Borrow.{MutBor}
 use Rattle.abstract_sheet.specs.Sheet.{CellRecord, cell_record_with}
 use Rattle.plan_rules.specs.declared.ScenePlan.{ScenePlan}
+use Rattle.plan_rules.specs.declared.Halted.{Halted}
 use Rattle.plan_rules.specs.declared.Fixed.{Fixed}
-use Rattle.plan_rules.specs.World.{detail_budget_exhausted, world, Flow, go, halt, bind, each, ending}
-use Rattle.plan_rules.specs.OnTape.{Given, given, query, Output, VisitReference, push_geometry, push_text, push_node, geometry_step, text_step, node_step, reference_step, cell_body}
+use Rattle.plan_rules.specs.declared.Reason.TheVariants.{OtherLimit}
+use Rattle.plan_rules.specs.World.{detail_budget_exhausted, world, Flow, halt, bind, each, ending}
+use Rattle.plan_rules.specs.OnTape.{Given, query, Output, VisitReference, add_load_if_boxed, halt_with_cell, flow_of, geometry_step, text_step, node_step, reference_step, cell_body}
 use Rattle.visit_items.specs.declared.OpenCell.{OpenCell}
-use Rattle.visit_items.specs.declared.Listed.{Listed}
-
--- ---- a list of numbers
 
 -- what is done with a number
 abbrev pub Push : Type 0
 Push = ℕ → Output → Flow (List ℕ)
 
-module _ {f : Fixed} (g : Given f) where
-  -- the number at a place: with room it is pushed, else the list halts
-  unfoldable pub push_with_room : Push → (ℕ → ℕ) → ℕ → Output → Flow (List ℕ)
-  push_with_room push at i w = cond (detail_budget_exhausted (query g) w.state) (halt w) (push (at i) w)
+module _ {f : Fixed} (g : Given f) (push : Push) (at : ℕ → ℕ) where
+  -- ---- a list of numbers
 
-  -- the last `count` numbers of a list, of which that at place i is given: it is pushed whatever the budget, those after it with room
-  unfoldable pub push_from : Push → (ℕ → ℕ) → ℕ → ℕ → ℕ → Output → Flow (List ℕ)
-  push_from push at i zero number w = go w
-  push_from push at i (suc after) number w = bind (push number w) (each (push_with_room push at) after (i + 1))
+  -- the number at a place: the first is given and pushed whatever the budget, each of the others with room, else the list halts
+  unfoldable pub push_at : ℕ → ℕ → Output → Flow (List ℕ)
+  push_at first i w = cond (eqb i 0) (push first w) (cond (detail_budget_exhausted (query g) w.state) (halt w) (push (at i) w))
 
-  module _ (at : ℕ → ℕ) (p : Placement) where
-    abbrev pub push_geometries : ℕ → ℕ → Output → Flow (List ℕ)
-    push_geometries = push_from (λ n w. go (push_geometry g n p w)) at 0
+  abbrev pub push_numbers : ℕ → ℕ → Output → Flow (List ℕ)
+  push_numbers first count = each (push_at first) count 0
 
-    abbrev pub push_texts : ℕ → ℕ → Output → Flow (List ℕ)
-    push_texts = push_from (λ n w. go (push_text g n p w)) at 0
+  -- ---- a list of a cell
 
-    abbrev pub push_nodes : ℕ → ℕ → Output → Flow (List ℕ)
-    push_nodes = push_from (λ n. push_node g n p) at 0
+  module _ (c : OpenCell) where
+    -- each number with room; where a limit stops the list, the cell's box is added
+    unfoldable pub cell_step : ℕ → Output → Flow (List ℕ)
+    cell_step i w =
+        cond (detail_budget_exhausted (query g) w.state) (halt (add_load_if_boxed OtherLimit c.number c.bounds w))
+        (halt_with_cell c.number c.bounds (push (at i) w))
+
+    abbrev pub cell_list : ℕ → Output → Flow (List ℕ)
+    cell_list count = each cell_step count 0
 
 -- ---- the lists of a cell
 
@@ -54,16 +54,17 @@ module _ {f : Fixed} (g : Given f) (c : OpenCell) (x : CellRecord) where
   abbrev pub cell_nodes : Output → Flow (List ℕ)
   cell_nodes = each (node_step g c.number x c.transform c.bounds) x.nodes.count 0
 
-  -- so many of the cell's references, and all its lists
-  abbrev pub visit_references : VisitReference g → ℕ → Output → Output
-  visit_references on count w = ending (each (reference_step g c.number x c.transform c.bounds on) count 0 w)
+  -- the three, one after the other: `cell_body` up to its references
+  abbrev pub cell_lists : Output → Flow (List ℕ)
+  cell_lists w = bind (bind (cell_geometries w) cell_texts) cell_nodes
 
+  -- all its lists, its references among them
   abbrev pub visit_lists : VisitReference g → Output → Output
   visit_lists on w = ending (cell_body g c.number x c.transform c.bounds on w)
 
--- what `push_items` promises: whatever the way to visit on and the scratch, its references, visited, leave what all its lists leave
-abbrev pub LeavesReferences : Bor (List ℕ) → Bor (List ℕ) → Fixed → Bor (List ℕ) → OpenCell → Listed → MutBor (List ℕ) → ScenePlan → MutBor (List ℕ) → Type 0
-LeavesReferences sheet finder f hidden c r out plan outBefore =
-    (on : VisitReference (given f sheet finder hidden)) (k m : List ℕ)
-    → visit_references (given f sheet finder hidden) c (opened sheet.now c) on r.references (world r.plan out.now k m)
-    ≡ visit_lists (given f sheet finder hidden) c (opened sheet.now c) on (world plan outBefore.now k m)
+  -- what is left after `OpenCell::push_items`, as its contract said before: whatever the way to visit on and the scratch, the references, visited where no limit was met, leave what all its lists leave
+  abbrev pub LeavesReferences : Result ScenePlan Halted → MutBor (List ℕ) → ScenePlan → MutBor (List ℕ) → Type 0
+  LeavesReferences r out plan before =
+      (on : VisitReference g) (k m : List ℕ)
+      → ending (bind (flow_of r (λ p. world p out.now k m)) (each (reference_step g c.number x c.transform c.bounds on) x.references.count 0))
+      ≡ visit_lists on (world plan before.now k m)

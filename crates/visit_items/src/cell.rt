@@ -1,150 +1,59 @@
-// The lists of an open cell, each as `visit_cell` goes through it: at an exhausted budget the cell's box is added, if it has one, and the visit is over.
-ghost use Rattle.plan_rules.specs.OnTape.{given, LeavesFlow};
-ghost use Rattle.visit_items.specs.Lists.{opened, cell_geometries, cell_texts, cell_nodes};
+// The lists of an open cell, as `visit_cell` goes through them: at an exhausted budget the cell's box is added, if it has one, and the visit is over.
+ghost use Rattle.plan_rules.specs.declared.Reason.TheVariants.{OtherLimit};
+ghost use Rattle.plan_rules.specs.OnTape.{given_of, Leaves, LeavesFlow, add_load_if_boxed};
+ghost use Rattle.visit_items.specs.Lists.{opened, cell_list, cell_lists};
 
-use crate::OpenCell;
-use crate::lists::{load_cell, push_geometries, push_nodes, push_texts};
+use crate::{Geometries, Items, Nodes, OpenCell, Texts, push_numbers};
+use events::add_load_if_boxed;
 use limits::detail_budget_exhausted;
-use plan_rules::{Fixed, ScenePlan};
-use pushes::Visited;
+use plan_rules::{Given, Halted, Reason, ScenePlan};
 
-pub fn cell_geometries(
-    sheet: &[u8],
-    finder: &[u32],
-    fixed: Fixed,
-    hidden: &[u32],
-    out: &mut [u8],
-    plan: ScenePlan,
-    cell: OpenCell,
-) -> Visited
-    ensures { LeavesFlow result.whole result.plan out.exit (cell_geometries (given fixed sheet.entry finder.entry hidden.entry) cell (opened sheet.now cell)) plan out.entry }
-{
-    let count = cell.record.geometries;
-    if count == 0 {
-        return Visited { plan, whole: true };
+impl OpenCell {
+    // A limit is met in the visit of the cell.
+    pub fn load(&self, out: &mut [u8], plan: ScenePlan) -> ScenePlan
+        ensures { Leaves result out.exit (add_load_if_boxed OtherLimit self.now.number self.now.bounds) plan out.entry }
+    {
+        add_load_if_boxed(out, plan, Reason::OtherLimit, self.number, self.bounds)
     }
-    if detail_budget_exhausted(fixed, plan) {
-        return Visited {
-            plan: load_cell(out, plan, cell),
-            whole: false,
-        };
-    }
-    let first = records::cell_geometry_at(sheet, cell.at, 0);
-    let visited = push_geometries(
-        sheet,
-        finder,
-        fixed,
-        hidden,
-        out,
-        plan,
-        first,
-        cell.at,
-        count,
-        cell.transform,
-    );
-    let next = visited.plan;
-    if visited.whole {
-        return Visited {
-            plan: next,
-            whole: true,
-        };
-    }
-    Visited {
-        plan: load_cell(out, next, cell),
-        whole: false,
-    }
-}
 
-pub fn cell_texts(
-    sheet: &[u8],
-    finder: &[u32],
-    fixed: Fixed,
-    hidden: &[u32],
-    out: &mut [u8],
-    plan: ScenePlan,
-    cell: OpenCell,
-) -> Visited
-    ensures { LeavesFlow result.whole result.plan out.exit (cell_texts (given fixed sheet.entry finder.entry hidden.entry) cell (opened sheet.now cell)) plan out.entry }
-{
-    let count = cell.record.texts;
-    if count == 0 {
-        return Visited { plan, whole: true };
+    fn push_list<I: Items>(
+        &self,
+        given: &Given<'_>,
+        out: &mut [u8],
+        plan: ScenePlan,
+    ) -> Result<ScenePlan, Halted>
+        ensures { LeavesFlow result out.exit (cell_list (given_of given.now) (I.push given.now self.now.transform) (I.numbers given.now.sheet.now self.now.at) self.now (I.count self.now.«record»)) plan out.entry }
+    {
+        let count = I::count(&self.record);
+        if count == 0 {
+            return Ok(plan);
+        }
+        if detail_budget_exhausted(given.fixed, plan) {
+            return Err(Halted {
+                plan: self.load(out, plan),
+            });
+        }
+        let first = I::number(given.sheet, self.at, 0);
+        // Kept: a `match` for `map_err`: what a closure that is not called leaves of `out` is in no clause, so the proof doesn't close.
+        match push_numbers::<I>(given, out, plan, first, self.at, count, self.transform) {
+            Ok(listed) => Ok(listed),
+            Err(halted) => Err(Halted {
+                plan: self.load(out, halted.plan),
+            }),
+        }
     }
-    if detail_budget_exhausted(fixed, plan) {
-        return Visited {
-            plan: load_cell(out, plan, cell),
-            whole: false,
-        };
-    }
-    let first = records::cell_text_at(sheet, cell.at, 0);
-    let visited = push_texts(
-        sheet,
-        finder,
-        fixed,
-        hidden,
-        out,
-        plan,
-        first,
-        cell.at,
-        count,
-        cell.transform,
-    );
-    let next = visited.plan;
-    if visited.whole {
-        return Visited {
-            plan: next,
-            whole: true,
-        };
-    }
-    Visited {
-        plan: load_cell(out, next, cell),
-        whole: false,
-    }
-}
 
-pub fn cell_nodes(
-    sheet: &[u8],
-    finder: &[u32],
-    fixed: Fixed,
-    hidden: &[u32],
-    out: &mut [u8],
-    plan: ScenePlan,
-    cell: OpenCell,
-) -> Visited
-    ensures { LeavesFlow result.whole result.plan out.exit (cell_nodes (given fixed sheet.entry finder.entry hidden.entry) cell (opened sheet.now cell)) plan out.entry }
-{
-    let count = cell.record.nodes;
-    if count == 0 {
-        return Visited { plan, whole: true };
-    }
-    if detail_budget_exhausted(fixed, plan) {
-        return Visited {
-            plan: load_cell(out, plan, cell),
-            whole: false,
-        };
-    }
-    let first = records::cell_node_at(sheet, cell.at, 0);
-    let visited = push_nodes(
-        sheet,
-        finder,
-        fixed,
-        hidden,
-        out,
-        plan,
-        first,
-        cell.at,
-        count,
-        cell.transform,
-    );
-    let next = visited.plan;
-    if visited.whole {
-        return Visited {
-            plan: next,
-            whole: true,
-        };
-    }
-    Visited {
-        plan: load_cell(out, next, cell),
-        whole: false,
+    // All its lists.
+    pub fn push_items(
+        &self,
+        given: &Given<'_>,
+        out: &mut [u8],
+        plan: ScenePlan,
+    ) -> Result<ScenePlan, Halted>
+        ensures { LeavesFlow result out.exit (cell_lists (given_of given.now) self.now (opened given.now.sheet.now self.now)) plan out.entry }
+    {
+        let after_geometries = self.push_list::<Geometries>(given, out, plan)?;
+        let after_texts = self.push_list::<Texts>(given, out, after_geometries)?;
+        self.push_list::<Nodes>(given, out, after_texts)
     }
 }

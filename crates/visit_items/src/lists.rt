@@ -1,138 +1,55 @@
-// The lists of numbers that a plan goes through: a cell's batches, texts and nodes, or the one number that a reference has for its source.
-// A loop goes through `count` numbers: `first`, whatever the budget, then those after the first in a list of the cell's record at `at`, while
-// there is room. It answers `false` where a limit stopped it.
-// A push is called in one place, the loop over a list, so that it is compiled into the loop: the totals then stay in registers from number to number.
-ghost use Rattle.records.specs.Records.{cell_geometry_at, cell_text_at, cell_node_at};
-ghost use Rattle.plan_rules.specs.declared.Reason.TheVariants.{OtherLimit};
-ghost use Rattle.plan_rules.specs.OnTape.{given, Leaves, LeavesFlow, add_load_if_boxed};
-ghost use Rattle.visit_items.specs.Lists.{push_geometries, push_texts, push_nodes};
+// The list of numbers that a plan goes through: a cell's batches, texts or nodes, or the one number that a reference has for its source.
+// The loop goes through `count` numbers: `first`, whatever the budget, then those after the first in a list of the cell's record at `at`, while
+// there is room. A limit that stops it is an `Err`.
+// A push is called in one place, this loop, so that it is compiled into it: the totals then stay in registers from number to number.
+ghost use Rattle.std.specs.Prelude.{◌≡◌};
+ghost use Rattle.plan_rules.specs.OnTape.{given_of, LeavesFlow};
+ghost use Rattle.visit_items.specs.Lists.{push_numbers};
 
-use crate::OpenCell;
-use events::add_load_if_boxed;
+use crate::Items;
 use geometry::placement::Placement;
 use limits::detail_budget_exhausted;
-use plan_rules::{Fixed, Reason, ScenePlan};
-use pushes::{Visited, push_geometry, push_node, push_text};
+use plan_rules::{Given, Halted, ScenePlan};
 
-// A limit is met in the visit of a cell.
-pub fn load_cell(out: &mut [u8], plan: ScenePlan, cell: OpenCell) -> ScenePlan
-    ensures { Leaves result out.exit (add_load_if_boxed OtherLimit cell.number cell.bounds) plan out.entry }
+// The same plan, its totals copied one by one: the compiler then keeps each of them apart. A plan that is only copied whole goes through memory at each `?`.
+fn one_by_one(plan: ScenePlan) -> ScenePlan
+    ensures { result ≡ plan }
 {
-    let bounds = cell.bounds;
-    add_load_if_boxed(out, plan, Reason::OtherLimit, cell.number, bounds)
+    ScenePlan {
+        tape_end: plan.tape_end,
+        texts: plan.texts,
+        load_proxies: plan.load_proxies,
+        detail_cells: plan.detail_cells,
+        detail_objects: plan.detail_objects,
+        culled_references: plan.culled_references,
+        skipped_subpixel_references: plan.skipped_subpixel_references,
+        culled_geometry_batches: plan.culled_geometry_batches,
+        skipped_subpixel_geometry_batches: plan.skipped_subpixel_geometry_batches,
+        dropped_load_proxies: plan.dropped_load_proxies,
+    }
 }
 
-pub fn push_geometries(
-    sheet: &[u8],
-    finder: &[u32],
-    fixed: Fixed,
-    hidden: &[u32],
+pub fn push_numbers<I: Items>(
+    given: &Given<'_>,
     out: &mut [u8],
-    plan: ScenePlan,
+    mut plan: ScenePlan,
     first: u32,
     at: usize,
     count: u32,
     transform: Placement,
-) -> Visited
-    ensures { LeavesFlow result.whole result.plan out.exit (push_geometries (given fixed sheet.entry finder.entry hidden.entry) (cell_geometry_at sheet.now at) transform count first) plan out.entry }
+) -> Result<ScenePlan, Halted>
+    ensures { LeavesFlow result out.exit (push_numbers (given_of given.now) (I.push given.now transform) (I.numbers given.now.sheet.now at) first count) plan out.entry }
 {
-    let mut next = plan;
-    let mut number = first;
-    let mut i: u32 = 0;
-    while i < count {
-        next = push_geometry(sheet, finder, fixed, hidden, out, next, number, transform);
-        i += 1;
-        if i < count {
-            if detail_budget_exhausted(fixed, next) {
-                return Visited {
-                    plan: next,
-                    whole: false,
-                };
-            }
-            number = records::cell_geometry_at(sheet, at, i);
-        }
+    let sheet = given.sheet; // read once: behind each write to `out` the compiler would read it again
+    for i in 0..count {
+        let number = if i == 0 {
+            first
+        } else if detail_budget_exhausted(given.fixed, plan) {
+            return Err(Halted { plan });
+        } else {
+            I::number(sheet, at, i)
+        };
+        plan = one_by_one(I::push(given, out, plan, number, transform)?);
     }
-    Visited {
-        plan: next,
-        whole: true,
-    }
-}
-
-pub fn push_texts(
-    sheet: &[u8],
-    finder: &[u32],
-    fixed: Fixed,
-    hidden: &[u32],
-    out: &mut [u8],
-    plan: ScenePlan,
-    first: u32,
-    at: usize,
-    count: u32,
-    transform: Placement,
-) -> Visited
-    ensures { LeavesFlow result.whole result.plan out.exit (push_texts (given fixed sheet.entry finder.entry hidden.entry) (cell_text_at sheet.now at) transform count first) plan out.entry }
-{
-    let mut next = plan;
-    let mut number = first;
-    let mut i: u32 = 0;
-    while i < count {
-        next = push_text(sheet, finder, fixed, hidden, out, next, number, transform);
-        i += 1;
-        if i < count {
-            if detail_budget_exhausted(fixed, next) {
-                return Visited {
-                    plan: next,
-                    whole: false,
-                };
-            }
-            number = records::cell_text_at(sheet, at, i);
-        }
-    }
-    Visited {
-        plan: next,
-        whole: true,
-    }
-}
-
-pub fn push_nodes(
-    sheet: &[u8],
-    finder: &[u32],
-    fixed: Fixed,
-    hidden: &[u32],
-    out: &mut [u8],
-    plan: ScenePlan,
-    first: u32,
-    at: usize,
-    count: u32,
-    transform: Placement,
-) -> Visited
-    ensures { LeavesFlow result.whole result.plan out.exit (push_nodes (given fixed sheet.entry finder.entry hidden.entry) (cell_node_at sheet.now at) transform count first) plan out.entry }
-{
-    let mut next = plan;
-    let mut number = first;
-    let mut i: u32 = 0;
-    while i < count {
-        let visited = push_node(sheet, finder, fixed, hidden, out, next, number, transform);
-        next = visited.plan;
-        if !visited.whole {
-            return Visited {
-                plan: next,
-                whole: false,
-            };
-        }
-        i += 1;
-        if i < count {
-            if detail_budget_exhausted(fixed, next) {
-                return Visited {
-                    plan: next,
-                    whole: false,
-                };
-            }
-            number = records::cell_node_at(sheet, at, i);
-        }
-    }
-    Visited {
-        plan: next,
-        whole: true,
-    }
+    Ok(plan)
 }

@@ -2,15 +2,14 @@
 -- They join the look-up laws of the abstract sheet with the rules by code path.
 -- Assumes nothing.
 use mathlib.Core.Path.{◌≡◌, sym, ap, ◌∙◌}
-use mathlib.Core.Bool.{Bool, true, false, not, cond}
+use mathlib.Core.Bool.{true, false}
 use mathlib.Core.List.{List}
 use mathlib.Core.Option.{Option}
-use Prim.Native.Nat.{ℕ}
+use Prim.Native.Nat.{ℕ, ◌-◌}
 use lib.ListN.{set}
-use borrow.Author.Tests.{not-true, not-false}
 use Rattle.geometry.specs.declared.placement.Placement.{Placement}
-use Rattle.walk.specs.declared.Found.{Found}
-use Rattle.walk.specs.declared.Found.TheVariants.{At, Nothing}
+use Rattle.walk.specs.Find.{Found}
+use Rattle.std.proofs.Common.{Some, None}
 use Rattle.records.specs.declared.PreparedSource.{PreparedSource}
 use Rattle.records.specs.declared.PreparedSource.TheVariants.{Geometry, Text, Node, Reference, Cell}
 use Rattle.records.specs.declared.PreparedCell.{PreparedCell}
@@ -20,40 +19,63 @@ use Rattle.look_up.specs.Look.{look}
 use Rattle.look_up.proofs.Looking.{item_looked}
 use Rattle.plan_rules.specs.declared.ScenePlan.{ScenePlan}
 use Rattle.plan_rules.specs.declared.Fixed.{Fixed}
+use Rattle.plan_rules.specs.declared.Given as lends
 use Rattle.plan_rules.specs.declared.Reason.TheVariants.{OtherLimit}
-use Rattle.plan_rules.specs.World.{detail_budget_exhausted, world, Flow, go, halt, set_mark}
+use Rattle.plan_rules.specs.World.{detail_budget_exhausted, world, Flow, go, halt, ending, each, set_mark}
 use Rattle.plan_rules.specs.Scratch.{open_place}
 use Rattle.plan_rules.specs.Visit as rules
-use Rattle.plan_rules.specs.OnTape.{Given, given_bytes, Output, query, add_load_if_boxed, reference_step, visit_found_cell, on_reference, visit_cell, visit_reference, visit_source}
+use Rattle.plan_rules.specs.OnTape.{Given, given_of, Output, query, add_load_if_boxed, push_geometry, push_text, push_node, reference_step, visit_found_cell, on_reference, visit_cell, visit_reference, visit_source}
 use Rattle.plan_rules.proofs.Paths.Cells as Paths
+use Rattle.plan_rules.proofs.Paths.Loops.{each_start}
 use Rattle.visit_items.specs.declared.OpenCell.{OpenCell}
-use Rattle.visit_items.specs.Lists.{opened, push_geometries, push_texts, push_nodes, visit_references, visit_lists}
+use Rattle.visit_items.specs.Lists.{opened, push_numbers}
 use Rattle.visit_items.proofs.NumberLoop.{one}
-use Rattle.enter_cell.specs.declared.Entered.{Entered}
-use Rattle.enter_cell.specs.Left.{found_cell, left_of_cell}
+use Rattle.enter_cell.specs.Left.{found_cell}
 
 -- one turn of the loop over the references of the cell at an offset
-abbrev pub turn : List ℕ → List ℕ → Fixed → List ℕ → ℕ → OpenCell → ℕ → Output → Flow (List ℕ)
-turn s finder f hidden depth c = reference_step (given_bytes f s finder hidden) c.number (opened s c) c.transform c.bounds (on_reference (given_bytes f s finder hidden) depth)
+abbrev pub turn : lends.Given → ℕ → OpenCell → ℕ → Output → Flow (List ℕ)
+turn d depth c = reference_step (given_of d) c.number (opened d.sheet.now c) c.transform c.bounds (on_reference (given_of d) depth)
 
-module _ (s finder : List ℕ) (f : Fixed) (hidden : List ℕ) (depth : ℕ) where
-  -- what the plan is given
-  abbrev g : Given f
-  g = given_bytes f s finder hidden
+-- a cell is closed after its loop
+unfoldable pub closed : Fixed → ℕ → Flow (List ℕ) → Output
+closed f cell x = set_mark (open_place f.counts.cells cell) 0 (ending x)
+
+module _ (f : Fixed) (cell : ℕ) {visited : Output} where
+  -- its lists are visited: the marks that the code leaves are those of the closed cell
+  pub lists_over : {plan : ScenePlan} {o k m m' : List ℕ} {lists : Output} → world plan o k m ≡ lists → set_mark (open_place f.counts.cells cell) 0 lists ≡ visited
+      → m' ≡ set m (open_place f.counts.cells cell) 0 → world plan o k m' ≡ visited
+  lists_over {plan = plan} {o = o} {k = k} over whole close =
+      ap (λ (n : List ℕ). world plan o k n) close ∙ ap (set_mark (open_place f.counts.cells cell) 0) over ∙ whole
+
+  -- the same by its loop, as it begins and where it ends
+  pub loop_begins : (step : ℕ → Output → Flow (List ℕ)) (count : ℕ) (w : Output) {lists : Output} → ending (each step count 0 w) ≡ lists
+      → set_mark (open_place f.counts.cells cell) 0 lists ≡ visited → closed f cell (each step (count - 0) 0 w) ≡ visited
+  unfolding closed
+  loop_begins step count w listed whole =
+      ap (closed f cell) (each_start step count w) ∙ ap (set_mark (open_place f.counts.cells cell) 0) listed ∙ whole
+
+  pub loop_over : (x : Flow (List ℕ)) {plan : ScenePlan} {o k m m' : List ℕ} → closed f cell x ≡ visited → ending x ≡ world plan o k m
+      → m' ≡ set m (open_place f.counts.cells cell) 0 → world plan o k m' ≡ visited
+  unfolding closed
+  loop_over x whole over close = lists_over (sym over) whole close
+
+module _ (d : lends.Given) (depth : ℕ) where
+  abbrev g : Given d.fixed
+  g = given_of d
 
   -- ---- the loop of `visit_cell`
 
   module _ (c : OpenCell) (i : ℕ) (w v : Output) where
-    pub turn_exhausted : detail_budget_exhausted (query g) w.state ≡ true → v ≡ add_load_if_boxed OtherLimit c.number c.bounds w → turn s finder f hidden depth c i w ≡ halt v
-    turn_exhausted full boxed = Paths.reference_step_exhausted g c.number (opened s c) c.transform c.bounds i w full _ ∙ ap halt (sym boxed)
+    pub turn_exhausted : detail_budget_exhausted (query g) w.state ≡ true → v ≡ add_load_if_boxed OtherLimit c.number c.bounds w → turn d depth c i w ≡ halt v
+    turn_exhausted full boxed = Paths.reference_step_exhausted g c.number (opened d.sheet.now c) c.transform c.bounds i w full _ ∙ ap halt (sym boxed)
 
     pub turn_goes : (number : ℕ)
         → detail_budget_exhausted (query g) w.state ≡ false
-        → number ≡ cell_reference_at s c.at i
+        → number ≡ cell_reference_at d.sheet.now c.at i
         → v ≡ visit_reference g depth number c.transform w
-        → turn s finder f hidden depth c i w ≡ go v
+        → turn d depth c i w ≡ go v
     turn_goes number room listed visited =
-        Paths.reference_step_goes g c.number (opened s c) c.transform c.bounds i w room _
+        Paths.reference_step_goes g c.number (opened d.sheet.now c) c.transform c.bounds i w room _
         ∙ ap (λ (n : ℕ). go (visit_reference g depth n c.transform w)) (sym listed)
         ∙ ap go (sym visited)
 
@@ -63,40 +85,16 @@ module _ (s finder : List ℕ) (f : Fixed) (hidden : List ℕ) (depth : ℕ) whe
     abbrev visited : Output
     visited = visit_cell g depth cell p w
 
-    pub cell_missing : {found : Found} → found ≡ look s finder f.counts 5 cell → found ≡ Nothing → w ≡ visited
-    cell_missing looked told = sym (Paths.cell_missing g depth cell p w (item_looked cells s finder f.counts cell looked told))
+    pub cell_missing : {found : Found} → found ≡ look d.sheet.now d.finder.now d.fixed.counts 5 cell → found ≡ None → w ≡ visited
+    cell_missing looked told = sym (Paths.cell_missing g depth cell p w (item_looked cells d.sheet.now d.finder.now d.fixed.counts cell looked told))
 
     -- the cell is found at an offset, and its record is read
-    module _ {found : Found} (looked : found ≡ look s finder f.counts 5 cell) (at : ℕ) (told : found ≡ At at) (record₁ : PreparedCell) (read : record₁ ≡ cell_at s at) (r : Entered) (w₁ : Output)
-        (entered : left_of_cell g (on_reference g depth) cell (cell_record_with s at record₁) p r w₁ ≡ found_cell g (on_reference g depth) cell (cell_record_with s at record₁) p w) where
-      found_visited : left_of_cell g (on_reference g depth) cell (cell_record_with s at record₁) p r w₁ ≡ visited
+    module _ {looked_up : Found} (looked : looked_up ≡ look d.sheet.now d.finder.now d.fixed.counts 5 cell) (at : ℕ) (told : looked_up ≡ Some at) (record₁ : PreparedCell) (read : record₁ ≡ cell_at d.sheet.now at) where
+      pub found : found_cell g (on_reference g depth) cell (cell_record_with d.sheet.now at record₁) p w ≡ visited
       unfolding rules.visit_cell cell_record_at
-      found_visited =
-          entered
-          ∙ ap (λ (x : PreparedCell). found_cell g (on_reference g depth) cell (cell_record_with s at x) p w) read
-          ∙ sym (ap (λ (o : Option CellRecord). visit_found_cell g (on_reference g depth) cell p o w) (item_looked cells s finder f.counts cell looked told))
-
-      abbrev opened_cell : OpenCell
-      opened_cell = record { number = cell; at = at; «record» = record₁; transform = p; bounds = r.bounds }
-
-      -- its lists visited
-      abbrev lists : Output
-      lists = visit_lists g opened_cell (opened s opened_cell) (on_reference g depth) w₁
-
-      pub cell_not_entered : not r.goes ≡ true → w₁ ≡ visited
-      cell_not_entered h = sym (ap (λ (b : Bool). cond b (set_mark (open_place f.counts.cells cell) 0 lists) w₁) (not-true r.goes h)) ∙ found_visited
-
-      -- its items listed, the loop over its references ends in a world, early or not, in which the cell is closed
-      pub cell_visited : not r.goes ≡ false → (references : ℕ) (w₂ : Output) (plan : ScenePlan) (o k m m' : List ℕ)
-          → visit_references g opened_cell (opened s opened_cell) (on_reference g depth) references w₂ ≡ lists
-          → visit_references g opened_cell (opened s opened_cell) (on_reference g depth) references w₂ ≡ world plan o k m
-          → m' ≡ set m (open_place f.counts.cells cell) 0
-          → world plan o k m' ≡ visited
-      cell_visited h references w₂ plan o k m m' listed ended closed =
-          ap (λ (x : List ℕ). world plan o k x) closed
-          ∙ ap (set_mark (open_place f.counts.cells cell) 0) (sym ended ∙ listed)
-          ∙ sym (ap (λ (b : Bool). cond b (set_mark (open_place f.counts.cells cell) 0 lists) w₁) (not-false r.goes h))
-          ∙ found_visited
+      found =
+          ap (λ (x : PreparedCell). found_cell g (on_reference g depth) cell (cell_record_with d.sheet.now at x) p w) read
+          ∙ sym (ap (λ (o : Option CellRecord). visit_found_cell g (on_reference g depth) cell p o w) (item_looked cells d.sheet.now d.finder.now d.fixed.counts cell looked told))
 
   -- ---- `visit_source`
 
@@ -107,14 +105,16 @@ module _ (s finder : List ℕ) (f : Fixed) (hidden : List ℕ) (depth : ℕ) whe
     pub source_cell : source ≡ Cell n → (v : Output) → v ≡ visit_cell g depth n p w → go v ≡ sourced
     source_cell e v f = rw e (ap go f ∙ sym (Paths.source_cell g depth n p w))
 
-    pub source_geometry : source ≡ Geometry n → (at : ℕ → ℕ) (x : Flow (List ℕ)) → x ≡ push_geometries g at p 1 n w → x ≡ sourced
-    source_geometry e at x f = rw e (f ∙ one g _ at n w ∙ sym (Paths.source_geometry g depth n p w))
+    -- a list of the one number
+    module _ (at : ℕ → ℕ) (x : Flow (List ℕ)) where
+      pub source_geometry : source ≡ Geometry n → x ≡ push_numbers g (λ n w. go (push_geometry g n p w)) at n 1 w → x ≡ sourced
+      source_geometry e f = rw e (f ∙ one g _ at n w ∙ sym (Paths.source_geometry g depth n p w))
 
-    pub source_text : source ≡ Text n → (at : ℕ → ℕ) (x : Flow (List ℕ)) → x ≡ push_texts g at p 1 n w → x ≡ sourced
-    source_text e at x f = rw e (f ∙ one g _ at n w ∙ sym (Paths.source_text g depth n p w))
+      pub source_text : source ≡ Text n → x ≡ push_numbers g (λ n w. go (push_text g n p w)) at n 1 w → x ≡ sourced
+      source_text e f = rw e (f ∙ one g _ at n w ∙ sym (Paths.source_text g depth n p w))
 
-    pub source_node : source ≡ Node n → (at : ℕ → ℕ) (x : Flow (List ℕ)) → x ≡ push_nodes g at p 1 n w → x ≡ sourced
-    source_node e at x f = rw e (f ∙ one g _ at n w ∙ sym (Paths.source_node g depth n p w))
+      pub source_node : source ≡ Node n → x ≡ push_numbers g (λ n w. push_node g n p w) at n 1 w → x ≡ sourced
+      source_node e f = rw e (f ∙ one g _ at n w ∙ sym (Paths.source_node g depth n p w))
 
     pub source_reference : source ≡ Reference n → (v : Output) → v ≡ visit_reference g depth n p w → go v ≡ sourced
     source_reference e v f = rw e (ap go f ∙ sym (Paths.source_reference g depth n p w))

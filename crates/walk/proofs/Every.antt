@@ -13,7 +13,7 @@ use Rattle.walk.specs.Offsets.{length_at, kind_at, offsets_from, offsets}
 use Rattle.walk.proofs.Offsets.{by_order, offsets_more, offsets_bad}
 use Rattle.walk.specs.Find.{of_kind_in, of_kind, find}
 use Rattle.walk.proofs.Finding.{found_at}
-use Rattle.walk.specs.declared.Found.TheVariants.{At}
+use Rattle.std.specs.Prelude.{Some}
 use Rattle.walk.specs.Every.{All}
 
 -- where a fact of a record says that it has its head, it holds of the record at hand, and of those after it
@@ -46,5 +46,5 @@ all_nth P (x ∷ xs) zero at h e = let q : x ≡ at = cc in subst P q h.0
 all_nth P (x ∷ xs) (suc n) at h e = all_nth P xs n at h.1 e
 
 -- what is found has what all records have, and is of the kind
-pub find_all : (s : List ℕ) (kind n at : ℕ) (P : ℕ → Type 0) → All P (offsets s) → find s kind n ≡ At at → P at × (kind_at s at ≡ kind)
+pub find_all : (s : List ℕ) (kind n at : ℕ) (P : ℕ → Type 0) → All P (offsets s) → find s kind n ≡ Some at → P at × (kind_at s at ≡ kind)
 find_all s kind n at P h e = all_nth _ (of_kind s kind) n at (all_of_kind s kind P (offsets s) h) (found_at s kind n at e)

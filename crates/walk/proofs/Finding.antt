@@ -1,6 +1,6 @@
 -- The steps by which a walk finds a record by its number, which numbers are found, and how a record adds to the count of its kind.
 -- Assumes nothing.
-use mathlib.Core.Path.{◌≡◌, refl, ap, ◌∙◌}
+use mathlib.Core.Path.{◌≡◌, refl, ap}
 use Prim.Native.Nat.{ℕ, zero, suc, ◌+◌, ◌-◌, ◌≤◌, ◌<◌}
 use native.Mathlib.Omega.{arith}
 use mathlib.Core.List.{List, [], ◌∷◌}
@@ -9,18 +9,18 @@ use mathlib.Core.Option.{Option, none, some}
 use lib.ListN.{length, get_elem?}
 use lib.Dec.{eqb}
 use borrow.Author.Tests.{eq-eqb, ne_eqb}
-use Rattle.walk.specs.Offsets.{max_sheet_bytes, length_at, kind_at, offsets_from}
-use Rattle.walk.proofs.Offsets.{offsets_within, offsets_beyond, offsets_end, offsets_more, offsets_bad, offsets_some, by_order}
-use Rattle.walk.specs.declared.Found.{Found}
-use Rattle.walk.specs.declared.Found.TheVariants.{At, Nothing}
+use Rattle.walk.specs.Offsets.{max_sheet_bytes, kind_at, offsets_from}
+use Rattle.walk.proofs.Offsets.{offsets_within, by_order}
+use Rattle.walk.specs.Find.{Found}
+use Rattle.std.specs.Prelude.{Some, None}
 use Rattle.walk.specs.Find.{answer, count_in, count_of, find, find_in, of_kind, of_kind_in}
 
-find_nil : (s : List ℕ) (kind n : ℕ) → find_in s kind n [] ≡ Nothing
+pub find_nil : (s : List ℕ) (kind n : ℕ) → find_in s kind n [] ≡ None
 unfolding find_in of_kind_in answer
 find_nil s kind n = refl
 
 module _ (s : List ℕ) (kind at : ℕ) (xs : List ℕ) where
-  pub find_hit : kind_at s at ≡ kind → find_in s kind 0 (at ∷ xs) ≡ At at
+  pub find_hit : kind_at s at ≡ kind → find_in s kind 0 (at ∷ xs) ≡ Some at
   unfolding find_in of_kind_in answer
   find_hit e = rw (eq-eqb _ _ e)
 
@@ -41,47 +41,23 @@ find_from s kind n at = find_in s kind n (offsets_from s at)
 pub find_start : (s : List ℕ) (kind n : ℕ) → length s ≤ max_sheet_bytes → find_from s kind n 0 ≡ find s kind n
 find_start s kind n h = rw (offsets_within s h) refl
 
--- in more bytes than a sheet may have there is nothing
-pub find_beyond : (s : List ℕ) (kind n : ℕ) → max_sheet_bytes < length s → find s kind n ≡ Nothing
-find_beyond s kind n h = rw (offsets_beyond s h) (find_nil s kind n)
-
--- past the last record there is nothing
-pub find_end : (s : List ℕ) (kind n at : ℕ) → length s ≤ at → find_from s kind n at ≡ Nothing
-find_end s kind n at h = rw (offsets_end s at h) (find_nil s kind n)
-
-module _ (s : List ℕ) (kind n at : ℕ) (within : at < length s) where
-  -- the record at hand is the one
-  pub find_here : kind_at s at ≡ kind → n ≡ 0 → find_from s kind n at ≡ At at
-  find_here e z = let some_more = offsets_some s at within in rw (some_more.1, z) (find_hit s kind at some_more.0 e)
-
-  -- the record at hand is passed over, and m are left to pass before the one
-  module _ (m : ℕ) (passed : (xs : List ℕ) → find_in s kind n (at ∷ xs) ≡ find_in s kind m xs) where
-    pub find_on : 6 ≤ length_at s at → find_from s kind n at ≡ find_from s kind m (at + length_at s at)
-    find_on h = rw (offsets_more s at within h) (passed (offsets_from s (at + length_at s at)))
-
-    pub find_stop : length_at s at < 6 → find_from s kind n at ≡ Nothing
-    find_stop h = rw (offsets_bad s at within h) (passed [] ∙ find_nil s kind m)
-
-    pub find_past : 6 ≤ length_at s at → length s ≤ at + length_at s at → find_from s kind n at ≡ Nothing
-    find_past h past = find_on h ∙ find_end s kind m (at + length_at s at) past
-
-answer_at : (o : Option ℕ) (at : ℕ) → answer o ≡ At at → o ≡ some at
+answer_at : (o : Option ℕ) (at : ℕ) → answer o ≡ Some at → o ≡ some at
 unfolding answer
 answer_at none at e = let z : ◌≡◌ {A = ℕ} 0 1 = cc in absurd (omega arith)
 answer_at (some x) at e = let q : x ≡ at = cc in ap some q
 
 -- the n-th record of a kind is where the walk finds it
-pub found_at : (s : List ℕ) (kind n at : ℕ) → find s kind n ≡ At at → get_elem? (of_kind s kind) n ≡ some at
+pub found_at : (s : List ℕ) (kind n at : ℕ) → find s kind n ≡ Some at → get_elem? (of_kind s kind) n ≡ some at
 unfolding find_in
 found_at s kind n at e = answer_at (get_elem? (of_kind s kind) n) at e
 
-nth_some : (xs : List ℕ) (n : ℕ) → n < length xs → (at : ℕ) × (answer (get_elem? xs n) ≡ At at)
+nth_some : (xs : List ℕ) (n : ℕ) → n < length xs → (at : ℕ) × (answer (get_elem? xs n) ≡ Some at)
 unfolding answer
 nth_some [] n h = absurd (omega arith)
 nth_some (x ∷ xs) zero h = (x, refl)
 nth_some (x ∷ xs) (suc n) h = nth_some xs n (omega arith)
 
-nth_none : (xs : List ℕ) (n : ℕ) → length xs ≤ n → answer (get_elem? xs n) ≡ Nothing
+nth_none : (xs : List ℕ) (n : ℕ) → length xs ≤ n → answer (get_elem? xs n) ≡ None
 unfolding answer
 nth_none [] n h = refl
 nth_none (x ∷ xs) zero h = absurd (omega arith)
@@ -89,15 +65,15 @@ nth_none (x ∷ xs) (suc n) h = nth_none xs n (omega arith)
 
 -- numbers below the count of their kind are found, and others are not
 module _ (s : List ℕ) (kind n : ℕ) where
-  pub find_some : n < count_of s kind → (at : ℕ) × (find s kind n ≡ At at)
+  pub find_some : n < count_of s kind → (at : ℕ) × (find s kind n ≡ Some at)
   unfolding find_in
   find_some h = nth_some (of_kind s kind) n h
 
-  pub find_none : count_of s kind ≤ n → find s kind n ≡ Nothing
+  pub find_none : count_of s kind ≤ n → find s kind n ≡ None
   unfolding find_in
   find_none h = nth_none (of_kind s kind) n h
 
-  pub found_below : (at : ℕ) → find s kind n ≡ At at → n < count_of s kind
+  pub found_below : (at : ℕ) → find s kind n ≡ Some at → n < count_of s kind
   found_below at e =
       by_order (count_of s kind) n
       (λ h. let z : ◌≡◌ {A = ℕ} 0 1 = cc (find_none h) in absurd (omega arith))

@@ -55,6 +55,14 @@ module _ (s : List ℕ) where
   unfolding offsets_from
   offsets_bad at h k = enough_steps (length s) (suc (length s)) at (omega arith) (omega arith) ∙ in_bad (length s) at h k
 
+  -- past the last record, whose next would stand past the end of the bytes, a walk goes on from the end
+  pub offsets_last : (at : ℕ) → at < length s → (6 ≤ length_at s at → length s ≤ at + length_at s at) → offsets_from s at ≡ at ∷ offsets_from s (length s)
+  offsets_last at h past =
+      let none = sym (offsets_end (length s) (omega arith)) in
+      by_order 6 (length_at s at)
+      (λ k. offsets_more at h k ∙ ap (λ (l : List ℕ). at ∷ l) (offsets_end (at + length_at s at) (past k) ∙ none))
+      (λ k. offsets_bad at h k ∙ ap (λ (l : List ℕ). at ∷ l) none)
+
   -- before the end of the bytes there is a record
   pub offsets_some : (at : ℕ) → at < length s → (xs : List ℕ) × (offsets_from s at ≡ at ∷ xs)
   offsets_some at h = by_order 6 (length_at s at) (λ k. (offsets_from s (at + length_at s at), offsets_more at h k)) (λ k. ([], offsets_bad at h k))

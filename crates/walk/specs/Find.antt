@@ -1,11 +1,10 @@
 -- What is found by its number: document 01's "Items count from 0 within their kind".
 -- Definitions only. Assumes nothing.
-use Rattle.std.specs.Prelude.{ℕ, List, [], ◌∷◌, cond, length, eqb}
-use Rattle.std.proofs.Math.Option.{Option, none, some}
+use Rattle.std.specs.Prelude.{ℕ, List, [], ◌∷◌, cond, length, eqb, Option, Some, None}
+use Rattle.std.proofs.Math.Option as maybe
+use Rattle.std.proofs.Math.Option.{none, some}
 use Rattle.std.proofs.Math.ListN.{get_elem?}
 use Rattle.walk.specs.Offsets.{kind_at, offsets}
-use Rattle.walk.specs.declared.Found.{Found}
-use Rattle.walk.specs.declared.Found.TheVariants.{At, Nothing}
 
 -- those of a list of records that are of a kind
 unfoldable pub of_kind_in : List ℕ → ℕ → List ℕ → List ℕ
@@ -23,10 +22,13 @@ count_in s kind xs = length (of_kind_in s kind xs)
 abbrev pub count_of : List ℕ → ℕ → ℕ
 count_of s kind = count_in s kind (offsets s)
 
--- the answer of a look-up
-unfoldable pub answer : Option ℕ → Found
-answer none = Nothing
-answer (some at) = At at
+-- what a look-up finds: the offset of a record, or nothing
+abbrev pub Found : Type 0
+Found = Option ℕ
+
+unfoldable pub answer : maybe.Option ℕ → Found
+answer none = None
+answer (some at) = Some at
 
 -- the n-th of those of a list of records that are of a kind, counted from 0
 unfoldable pub find_in : List ℕ → ℕ → ℕ → List ℕ → Found

@@ -2,20 +2,18 @@
 
 #![tactic(auto)]
 
-ghost use Rattle.std.specs.Prelude.{◌≡◌, ◌+◌, ◌≤◌, length};
-ghost use Rattle.walk.specs.Offsets.{max_sheet_bytes, length_at, kind_at, Whole};
+ghost use Rattle.std.specs.Prelude.{◌≡◌, ◌+◌, ◌≤◌, ◌<◌, ◌∷◌, length};
+ghost use Rattle.walk.specs.Offsets.{max_sheet_bytes, length_at, kind_at, offsets_from, offsets, Whole};
+ghost use Rattle.std.specs.Iterator.{YieldsFirst, item_count};
+ghost use Rattle.walk.specs.Heads.{heads_at, left};
 ghost use Rattle.walk.specs.Find.{find};
 
+mod heads; // where a record is, and its kind
+
 use fields::{HEAD, KIND};
+pub use heads::{Head, Records};
 
 pub const MAX_SHEET_BYTES: usize = 16_777_216;
-
-// What a look-up finds: the offset of a record, or nothing.
-#[derive(Clone, Copy)]
-pub enum Found {
-    At(usize),
-    Nothing,
-}
 
 // The kind of a record that lies within the sheet.
 pub fn kind_within(s: &[u8], at: u32) -> u16
@@ -34,33 +32,69 @@ pub fn next_within(s: &[u8], at: u32) -> u32
     at + fields::u32_within(s, at as usize)
 }
 
-// The offset of the record of a kind with a number, for any bytes. A record that says it is shorter than its head ends the walk,
-// and so does one that reaches past the sheet: its length is compared with what is left before it is added.
-pub fn find(s: &[u8], kind: u16, number: u32) -> Found
+// From where a walk goes on past the record at an offset. A record that says it is shorter than its head is the last,
+// and so is one that reaches past the sheet, as one does whose head is cut short: its length is compared with what is left before it is added.
+fn next_at(s: &[u8], at: u32) -> u32
+    requires s_len_bound { length s.now ≤ max_sheet_bytes }
+    requires within { at < length s.now }
+    ensures { offsets_from s.now at ≡ at ∷ offsets_from s.now result }
+{
+    let size = s.len() as u32;
+    if size - at < HEAD as u32 {
+        return size;
+    }
+    let length = fields::u32_within(s, at as usize);
+    if length < HEAD as u32 {
+        return size;
+    }
+    if size - at < length {
+        return size;
+    }
+    at + length
+}
+
+impl<'a> Iterator for Records<'a> {
+    type Item = Head;
+
+    ghost next_gives = { YieldsFirst left };
+
+    ghost remaining = { item_count left };
+
+    fn next(&mut self) -> Option<Head> {
+        let at = self.at as usize;
+        if at >= self.sheet.len() {
+            return None;
+        }
+        self.at = next_at(self.sheet, self.at);
+        Some(Head {
+            at,
+            kind: fields::u16_at(self.sheet, at + KIND),
+        })
+    }
+}
+
+// The records of a sheet from its start on, for any bytes: more than a sheet may have hold none.
+pub fn records(sheet: &[u8]) -> Records<'_>
+    ensures { left result ≡ heads_at sheet.now (offsets sheet.now) }
+{
+    if MAX_SHEET_BYTES < sheet.len() {
+        return Records { sheet: &[], at: 0 };
+    }
+    Records { sheet, at: 0 }
+}
+
+// The offset of the record of a kind with a number, for any bytes.
+pub fn find(s: &[u8], kind: u16, number: u32) -> Option<usize>
     ensures { result ≡ find s.now kind number }
 {
-    if MAX_SHEET_BYTES < s.len() {
-        return Found::Nothing;
-    }
-    let size = s.len() as u32;
-    let mut at = 0u32;
     let mut left = number;
-    while at < size {
-        let index = at as usize;
-        if fields::u16_at(s, index + KIND) == kind {
+    for head in records(s) {
+        if head.kind == kind {
             if left == 0 {
-                return Found::At(index);
+                return Some(head.at);
             }
             left -= 1;
         }
-        let length = fields::u32_at(s, index);
-        if length < HEAD as u32 {
-            return Found::Nothing;
-        }
-        if size - at < length {
-            return Found::Nothing;
-        }
-        at += length;
     }
-    Found::Nothing
+    None
 }

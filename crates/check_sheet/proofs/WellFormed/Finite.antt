@@ -9,7 +9,7 @@ use mathlib.Core.Option.{some}
 use Rattle.fields.specs.Field.{f64_at}
 use Rattle.walk.specs.Offsets.{length_at, kind_at}
 use Rattle.walk.specs.Find.{find}
-use Rattle.walk.specs.declared.Found.TheVariants.{At}
+use Rattle.std.specs.Prelude.{Some}
 use Rattle.records.specs.declared.PreparedGeometry.{PreparedGeometry}
 use Rattle.records.specs.declared.PreparedText.{PreparedText}
 use Rattle.records.specs.declared.PreparedReference.{PreparedReference}
@@ -24,7 +24,7 @@ use Rattle.check_sheet.proofs.WellFormed.Found.{found_right}
 
 -- ---- In a record that is found: a float, a point and a box by the number of its first float
 
-module _ (s : List ℕ) (valid : Valid s) (kind n at : ℕ) (found : find s kind n ≡ At at) where
+module _ (s : List ℕ) (valid : Valid s) (kind n at : ℕ) (found : find s kind n ≡ Some at) where
   float_at : (j place : ℕ) → j < floats_count kind (length_at s at) → place ≡ at + floats_from kind + 8 * j → Finite (f64_at s place)
   float_at j place h p =
       let right = found_right s valid kind n at found in

@@ -13,7 +13,7 @@ use Rattle.walk.specs.Find.{find, find_in, of_kind_in, answer, count_of}
 use Rattle.walk.proofs.Finding.{find_hit, find_next, find_other}
 use Rattle.walk.specs.Every.{All}
 use Rattle.walk.proofs.Every.{find_all}
-use Rattle.walk.specs.declared.Found.TheVariants.{At}
+use Rattle.std.specs.Prelude.{Some}
 use Rattle.records.specs.Format as field
 use Rattle.records.specs.Format.{reference, cell, end_of, field_at}
 use Rattle.records.specs.Records.{cell_at, texts_from, nodes_from, references_from, cell_number_at, cell_geometry_at, cell_text_at, cell_node_at, cell_reference_at}
@@ -29,8 +29,8 @@ use Rattle.check_sheet.proofs.WellFormed.Found.{found_right}
 -- ---- A reference's own number is the one by which it is found
 
 module _ (s : List ℕ) (c : Counts) where
-  module _ (own n x at : ℕ) (xs : List ℕ) (later : (first m : ℕ) → AllNamed s c first xs → find_in s 4 m xs ≡ At at → link_ok s c (first + m) at ≡ true)
-      (here : link_ok s c own x ≡ true) (rest : AllNamed s c (tallied own (kind_at s x) 4) xs) (found : find_in s 4 n (x ∷ xs) ≡ At at) where
+  module _ (own n x at : ℕ) (xs : List ℕ) (later : (first m : ℕ) → AllNamed s c first xs → find_in s 4 m xs ≡ Some at → link_ok s c (first + m) at ≡ true)
+      (here : link_ok s c own x ≡ true) (rest : AllNamed s c (tallied own (kind_at s x) 4) xs) (found : find_in s 4 n (x ∷ xs) ≡ Some at) where
     by_kind : (b z : Bool) → eqb (kind_at s x) 4 ≡ b → eqb n 0 ≡ z → link_ok s c (own + n) at ≡ true
     unfolding tallied
     by_kind true true k z =
@@ -46,7 +46,7 @@ module _ (s : List ℕ) (c : Counts) where
         let number : own + 0 + n ≡ own + n = omega arith in
         subst (λ (m : ℕ). link_ok s c m at ≡ true) number (later (own + 0) n (rw k at rest) (sym (find_other s 4 x xs n (eqb-false _ _ k)) ∙ found))
 
-  reference_linked : (own n at : ℕ) (xs : List ℕ) → AllNamed s c own xs → find_in s 4 n xs ≡ At at → link_ok s c (own + n) at ≡ true
+  reference_linked : (own n at : ℕ) (xs : List ℕ) → AllNamed s c own xs → find_in s 4 n xs ≡ Some at → link_ok s c (own + n) at ≡ true
   unfolding find_in of_kind_in answer
   reference_linked own n at [] h e = let z : ◌≡◌ {A = ℕ} 0 1 = cc in absurd (omega arith)
   reference_linked own n at (x ∷ xs) h e =
@@ -61,7 +61,7 @@ module _ (s : List ℕ) (c : Counts) where
 
 module _ (s : List ℕ) (valid : Valid s) (n at : ℕ) where
   -- a reference, with its own number
-  pub source_asked : find s 4 n ≡ At at → source_named (field_at reference field.source_kind s at) (field_at reference field.source_number s at) (counts_of s) n ≡ true
+  pub source_asked : find s 4 n ≡ Some at → source_named (field_at reference field.source_kind s at) (field_at reference field.source_number s at) (counts_of s) n ≡ true
   unfolding link_ok
   source_asked e =
       let own : 0 + n ≡ n = omega arith in
@@ -69,7 +69,7 @@ module _ (s : List ℕ) (valid : Valid s) (n at : ℕ) where
       subst (λ (m : ℕ). link_ok s (counts_of s) m at ≡ true) own (reference_linked s (counts_of s) 0 n at (offsets s) valid.named e) in
       rw (found_right s valid 4 n at e).1 at linked
 
-  lists_asked : find s 5 n ≡ At at → lists_named s (counts_of s) at ≡ true
+  lists_asked : find s 5 n ≡ Some at → lists_named s (counts_of s) at ≡ true
   unfolding link_ok
   lists_asked e =
       let asked = find_all s 5 n at _ (all_linked s (counts_of s) 0 (offsets s) valid.named) e in
@@ -101,7 +101,7 @@ list_below s at first count bound from i e f h =
     rw place (ltb-true _ _ (every_at (below_at s bound) 4 count from i e h))
 
 -- "every number in a cell": its lists are asked one after the other
-pub listed_below : (s : List ℕ) → Valid s → (n at : ℕ) → find s 5 n ≡ At at → (kind : Kind) (i : ℕ) → i < (numbers kind (cell_record_at s at)).count
+pub listed_below : (s : List ℕ) → Valid s → (n at : ℕ) → find s 5 n ≡ Some at → (kind : Kind) (i : ℕ) → i < (numbers kind (cell_record_at s at)).count
     → (numbers kind (cell_record_at s at)).at i < count_of s (kind_number kind)
 unfolding lists_named counts_of cell_record_at cell_at cell_geometry_at cell_text_at cell_node_at cell_reference_at texts_from nodes_from references_from
 listed_below s valid n at e geometries i h =

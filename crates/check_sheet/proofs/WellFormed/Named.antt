@@ -6,7 +6,7 @@ use Prim.Native.Nat.{ℕ, ◌<◌}
 use native.Mathlib.Omega.{arith}
 use mathlib.Core.List.{List}
 use mathlib.Core.Option.{some}
-use Rattle.walk.specs.declared.Found.TheVariants.{At}
+use Rattle.std.specs.Prelude.{Some}
 use Rattle.walk.specs.Find.{find}
 use Rattle.walk.proofs.Finding.{found_below}
 use Rattle.records.specs.declared.PreparedSource.TheVariants.{Cell}
@@ -51,7 +51,7 @@ module _ (s : List ℕ) (valid : Valid s) where
     abbrev at : ℕ
     at = (item_located references s n r e).at
 
-    found : find s 4 n ≡ At at
+    found : find s 4 n ≡ Some at
     found = (item_located references s n r e).found
 
     in_record : r.source ≡ source_of (field_at reference field.source_kind s at) (field_at reference field.source_number s at)

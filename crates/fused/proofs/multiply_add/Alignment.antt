@@ -9,7 +9,7 @@ use lib.Dec.{lit≤}
 use lib.Pow.{pow_pos, pow-add, pow_mono}
 use Rattle.rounding.specs.RoundToOdd.{RoundsToOdd}
 use Rattle.fused.specs.RoundToOdd.{RoundsWideToOdd}
-use Rattle.fused.specs.TwoWords.{LeadingWord}
+use Rattle.fused.specs.Wide.{LeadingWord}
 use Rattle.rounding.proofs.Naturals.{lt_or_ge}
 use Rattle.fused.proofs.RoundToOdd.{to_odd_again, to_odd_scale, to_odd_unscale}
 

@@ -1,10 +1,10 @@
 -- The last two steps of the fused operation: the aligned sum by its cases, and its rounding.
 -- Assumes nothing.
 use mathlib.Core.Path.{◌≡◌, sym, ◌∙◌, subst}
-use mathlib.Core.Logic.{◌⊎◌, inl, inr}
+use mathlib.Core.Logic.{inl, inr}
 use mathlib.Core.Bool.{Bool, true, false, cond, beq}
 use Prim.Native.Nat.{ℕ, ◌+◌, ◌-◌, ◌*◌, ◌^◌, ◌≤◌, ◌<◌}
-use native.Mathlib.Nat.{le_trans, lt_of_le_of_lt, add-zero, mul-one, mul-le-mul_left, lt_of_mul-lt-mul_right, le-add_right}
+use native.Mathlib.Nat.{le_trans, lt_of_le_of_lt, lt_of_lt_of_le, sub-le, add-zero, mul-one, mul-le-mul_left, le-add_right}
 use native.Mathlib.Omega.{arith}
 use lib.Dec.{lit<}
 use lib.Pow.{pow_pos}
@@ -13,17 +13,17 @@ use lib.Ieee.{Float, binary64, round, sum}
 use Rattle.rounding.specs.RoundToOdd.{RoundsToOdd}
 use Rattle.fused.specs.RoundToOdd.{RoundsWideToOdd}
 use Rattle.rounding.specs.Packed.{packed, Encodes}
-use Rattle.fused.specs.TwoWords.{words, LeadingWord, Operand}
+use Rattle.fused.specs.Wide.{LeadingWord, Operand}
 use Rattle.fused.proofs.multiply_add.Alignment.{FarBelow, aligned, far_below, to_odd_in_units, wide_to_odd_difference, wide_to_odd_leading, wide_to_odd_positive, wide_to_odd_reversed, wide_to_odd_sum, wide_to_odd_zero}
 use Rattle.rounding.proofs.nearest.Theorem.{encodes_rounded, encodes_zero, packed_le}
 use Rattle.fused.proofs.multiply_add.Sums.{sum_alike, sum_less, sum_level, sum_more}
 use Rattle.rounding.proofs.decode.Signs.{with_sign}
-use Rattle.fused.proofs.wide.Shifts.{words_none}
+use Rattle.fused.proofs.Naturals.{sub_sub_cancel}
 
-pub round_wide_zero : (s : Bool) (hi lo e r n : ℕ) → r ≡ cond s (2 ^ 63) 0 → bit_or hi lo ≡ 0 → RoundsWideToOdd (words hi lo) n (2 ^ e) → Encodes binary64 r (round binary64 s n (2 ^ 2274))
-round_wide_zero s hi lo e r n q z h =
+pub round_wide_zero : (s : Bool) (w e r n : ℕ) → r ≡ cond s (2 ^ 63) 0 → w ≡ 0 → RoundsWideToOdd w n (2 ^ e) → Encodes binary64 r (round binary64 s n (2 ^ 2274))
+round_wide_zero s w e r n q z h =
     subst (λ (x : ℕ). Encodes binary64 x (round binary64 s n (2 ^ 2274))) (add-zero (cond s (2 ^ 63) 0) ∙ sym q)
-    (encodes_zero binary64 s n (2 ^ 2274) (wide_to_odd_zero n (2 ^ e) (subst (λ (x : ℕ). RoundsWideToOdd x n (2 ^ e)) (words_none hi lo z) h)) (pow_pos 2274))
+    (encodes_zero binary64 s n (2 ^ 2274) (wide_to_odd_zero n (2 ^ e) (subst (λ (x : ℕ). RoundsWideToOdd x n (2 ^ e)) z h)) (pow_pos 2274))
 
 pub round_wide_some : (s : Bool) (w e r n m u g : ℕ) → g ≡ cond s (2 ^ 63) 0 → LeadingWord w m u → r ≡ packed 53 2047 m (e + 64) (u + 1200) → RoundsWideToOdd w n (2 ^ e) → Encodes binary64 (bit_or g r) (round binary64 s n (2 ^ 2274))
 round_wide_some s w e r n m u g q a p h =
@@ -32,23 +32,21 @@ round_wide_some s w e r n m u g q a p h =
     (sym (with_sign s 63 y (lt_of_le_of_lt (packed_le 53 2047 m (e + 64) (u + 1200)) (lit< tt))) ∙ (λ i. bit_or (sym q i) (sym p i)))
     (encodes_rounded binary64 s n (2 ^ 2274) m (e + 64) (u + 1200) (pow_pos 2274) a.least a.under (to_odd_in_units n m e u 1074 1200 (wide_to_odd_leading w n e m u h a)))
 
--- ---- `aligned_sum`: x at the exponent e, and y, which shifted down by d is z, rounded to odd
-module _ (s t : Bool) {X Y e : ℕ} (z d : ℕ) (A : Operand X e) (B : Operand Y (e - d)) (D : d ≤ e) (S : RoundsToOdd z Y (2 ^ d)) where
+-- ---- `aligned_sum`: x at the exponent e, and y at f, which shifted down to meet x is z, rounded to odd
+module _ (s t : Bool) {X Y e f : ℕ} (z : ℕ) (A : Operand X e) (B : Operand Y f) (F : f ≤ e) (S : RoundsToOdd z Y (2 ^ (e - f))) where
   abbrev n : ℕ
-  n = Y * 2 ^ (e - d)
+  n = Y * 2 ^ f
+
+  abbrev d : ℕ
+  d = e - f
 
   leads : 0 < d → 2 ^ 124 ≤ X
-  leads g = go A.least
-    where
-      no : (d e : ℕ) → 0 < d → d ≤ e → e ≡ 0 → ⊥
-      no d e a b c = omega arith
-
-      go : (e ≡ 0) ⊎ (2 ^ 124 ≤ X) → 2 ^ 124 ≤ X
-      go (inl q) = absurd (no d e g D q)
-      go (inr h) = h
+  leads g = A.least (lt_of_lt_of_le g (sub-le e f))
 
   distant : FarBelow X z n (2 ^ e)
-  distant = aligned X Y z d e D B.even B.under leads S
+  distant =
+      subst (λ (k : ℕ). FarBelow X z (Y * 2 ^ k) (2 ^ e)) (sub_sub_cancel f e F)
+      (aligned X Y z d e (sub-le e f) B.even B.under leads S)
 
   -- z is no wider than the operands
   pub shifted_lt : z < 2 ^ 127
@@ -98,7 +96,3 @@ module _ (s t : Bool) {X Y e : ℕ} (z d : ℕ) (A : Operand X e) (B : Operand Y
       where
         more : (a b : ℕ) → 0 < a - b → b < a
         more a b p = omega arith
-
--- a number below 2 ^ 127 has its upper word below 2 ^ 63
-pub upper_lt : (hi lo : ℕ) → words hi lo < 2 ^ 127 → hi < 2 ^ 63
-upper_lt hi lo h = lt_of_mul-lt-mul_right (2 ^ 64) (lt_of_le_of_lt (le-add_right (hi * 2 ^ 64) lo) h)

@@ -1,9 +1,9 @@
 -- The fused operation on finite operands is one `sum`, by any fractions that the operands equal.
 -- Assumes nothing.
-use mathlib.Core.Path.{◌≡◌, sym, ap, ◌∙◌, subst}
+use mathlib.Core.Path.{◌≡◌, sym, ◌∙◌, subst}
 use mathlib.Core.Bool.{Bool}
-use Prim.Native.Nat.{ℕ, ◌-◌, ◌*◌, ◌^◌, ◌≤◌, ◌<◌}
-use native.Mathlib.Nat.{le_of_lt, mul_comm, mul_assoc, mul_left_comm, mul-pos}
+use Prim.Native.Nat.{ℕ, ◌*◌, ◌^◌, ◌<◌}
+use native.Mathlib.Nat.{mul_comm, mul_assoc, mul_left_comm, mul-pos}
 use lib.Ieee.{Float, nan, inf, fin, Format, unlike, up, down, sum, binary64, of_bits}
 use lib.Ieee.Fits.{down_pos}
 use lib.Ieee.Exact.{HasValue}
@@ -12,9 +12,7 @@ use lib.Pow.{pow_pos}
 use Rattle.fused.specs.Fma.{fma}
 use Rattle.rounding.specs.Fields.{exponent_field_of}
 use Rattle.rounding.specs.Packed.{Encodes}
-use Rattle.fused.specs.TwoWords.{Operand}
 use Rattle.rounding.proofs.decode.Reading.{units_of, value}
-use Rattle.fused.proofs.Naturals.{sub_sub_cancel}
 use Rattle.fused.proofs.multiply_add.Sums.{sum_same, sum_swap}
 
 -- ---- the fused operation on finite operands, by fractions with the denominator l that they equal; k scales both parts
@@ -52,23 +50,19 @@ fma_at f (fin s' m e) (fin t' n d) (fin u' h g) s t u X Y Z l k L K a b c =
     (addend_by (h * up g) (down g) Z (down e) (down d) l k c.1)
     ∙ (λ i. sum f (unlike (a.0 i) (b.0 i)) (X * Y * k) (c.0 i) (Z * (l * k)) (l * l * k))
 
--- ---- the fused operation by patterns: s, P and a are the product's sign, words and exponent, t, Q and b the addend's
-module _ (x y z : ℕ) (f : exponent_field_of x ≡ 2047 → ⊥) (g : exponent_field_of y ≡ 2047 → ⊥) (h : exponent_field_of z ≡ 2047 → ⊥) {s t : Bool} {P a Q b : ℕ}
-    (S : s ≡ unlike (leb (2 ^ 63) x) (leb (2 ^ 63) y)) (U : t ≡ leb (2 ^ 63) z) (A : Operand P a) (B : Operand Q b)
-    (p : P * 2 ^ a ≡ units_of x * units_of y * 2 ^ 126) (q : Q * 2 ^ b ≡ units_of z * 2 ^ 1200) where
+-- ---- the fused operation by patterns: s and P are the product's sign and size, t and Q the addend's, over 2 ^ 2274
+module _ (x y z : ℕ) (f : exponent_field_of x ≡ 2047 → ⊥) (g : exponent_field_of y ≡ 2047 → ⊥) (h : exponent_field_of z ≡ 2047 → ⊥) {s t : Bool} {P Q : ℕ}
+    (S : s ≡ unlike (leb (2 ^ 63) x) (leb (2 ^ 63) y)) (U : t ≡ leb (2 ^ 63) z) (p : P ≡ units_of x * units_of y * 2 ^ 126) (q : Q ≡ units_of z * 2 ^ 1200) where
   abbrev answer : Float
   answer = fma binary64 (of_bits binary64 x) (of_bits binary64 y) (of_bits binary64 z)
 
-  fused_is : sum binary64 s (P * 2 ^ a) t (Q * 2 ^ b) (2 ^ 2274) ≡ answer
+  fused_is : sum binary64 s P t Q (2 ^ 2274) ≡ answer
   fused_is =
       (λ i. sum binary64 (S i) (p i) (U i) (q i) (2 ^ 2274))
       ∙ sym (fma_at binary64 (of_bits binary64 x) (of_bits binary64 y) (of_bits binary64 z) (leb (2 ^ 63) x) (leb (2 ^ 63) y) (leb (2 ^ 63) z) (units_of x) (units_of y) (units_of z) (2 ^ 1074) (2 ^ 126) (pow_pos 1074) (pow_pos 126) (value x f) (value y g) (value z h))
 
-  pub product_leads : b ≤ a → (r : ℕ) → Encodes binary64 r (sum binary64 s (P * 2 ^ a) t (Q * 2 ^ (a - (a - b))) (2 ^ 2274)) → Encodes binary64 r answer
-  product_leads l r w = subst (λ (v : Float). Encodes binary64 r v) (ap (λ (k : ℕ). sum binary64 s (P * 2 ^ a) t (Q * 2 ^ k) (2 ^ 2274)) (sub_sub_cancel b a l) ∙ fused_is) w
+  pub product_leads : (r : ℕ) → Encodes binary64 r (sum binary64 s P t Q (2 ^ 2274)) → Encodes binary64 r answer
+  product_leads r w = subst (λ (v : Float). Encodes binary64 r v) fused_is w
 
-  pub addend_leads : a < b → (r : ℕ) → Encodes binary64 r (sum binary64 t (Q * 2 ^ b) s (P * 2 ^ (b - (b - a))) (2 ^ 2274)) → Encodes binary64 r answer
-  addend_leads l r w =
-      subst (λ (v : Float). Encodes binary64 r v)
-      (ap (λ (k : ℕ). sum binary64 t (Q * 2 ^ b) s (P * 2 ^ k) (2 ^ 2274)) (sub_sub_cancel a b (le_of_lt l)) ∙ sum_swap binary64 t (Q * 2 ^ b) s (P * 2 ^ a) (2 ^ 2274) ∙ fused_is)
-      w
+  pub addend_leads : (r : ℕ) → Encodes binary64 r (sum binary64 t Q s P (2 ^ 2274)) → Encodes binary64 r answer
+  addend_leads r w = subst (λ (v : Float). Encodes binary64 r v) (sum_swap binary64 t Q s P (2 ^ 2274) ∙ fused_is) w

@@ -8,11 +8,12 @@ use lib.Ieee.{neg}
 use Rattle.geometry.specs.Bbox.{bbox}
 use Rattle.abstract_sheet.specs.Sheet.{sheet_of}
 use Rattle.abstract_sheet.proofs.Examples.{worked_text, worked_cell, worked_sheet}
-use Rattle.plan_rules.specs.declared.Answer.TheVariants.{Planned, Refused, NoRoom}
+use Rattle.std.specs.Prelude.{Ok, Err}
+use Rattle.plan_rules.specs.declared.refusal.PlanError.TheVariants.{NoRoom}
 use Rattle.plan_rules.specs.Limits.{max_scene_objects}
 use Rattle.plan_rules.specs.World.{Query, World}
 use Rattle.plan_rules.specs.Tape.{no_tag, on_tape}
-use Rattle.plan_rules.specs.Outcome.{Outcome, outcome, fresh_plan, outcome_of}
+use Rattle.plan_rules.specs.Outcome.{Outcome, outcome, refused, fresh_plan, outcome_of}
 use Rattle.plan_rules.proofs.Cases.Opened.{opened}
 use Rattle.plan_rules.proofs.Cases.OpenedSheet.{opened_sheet}
 use Rattle.plan_rules.specs.Samples.{whole, page, viewing}
@@ -34,19 +35,19 @@ abbrev totals_bytes : ℕ → ℕ → List ℕ
 totals_bytes cells objects = (62 ∷ 0 ∷ 0 ∷ 0 ∷ 15 ∷ 0 ∷ cells ∷ 0 ∷ 0 ∷ 0 ∷ 0 ∷ 0 ∷ 0 ∷ 0 ∷ objects ∷ 0 ∷ 0 ∷ 0 ∷ 0 ∷ 0 ∷ 0 ∷ 0 ∷ []) ++ replicate 40 0
 
 -- one cell at depth 1: 1 count and 3 marks are named, and left zero
-pub worked : call worked_sheet worked_query 90 ≡ outcome (Planned 88) (text_bytes ++ totals_bytes 1 1 ++ (7 ∷ 7 ∷ [])) (0 ∷ 8 ∷ 8 ∷ 8 ∷ []) (0 ∷ 0 ∷ 0 ∷ 9 ∷ 9 ∷ [])
+pub worked : call worked_sheet worked_query 90 ≡ outcome (Ok 88) (text_bytes ++ totals_bytes 1 1 ++ (7 ∷ 7 ∷ [])) (0 ∷ 8 ∷ 8 ∷ 8 ∷ []) (0 ∷ 0 ∷ 0 ∷ 9 ∷ 9 ∷ [])
 unfolding worked_text worked_cell worked_sheet opened opened_sheet
 worked = refl
 
 -- "An empty sheet gives totals only."
-pub empty_sheet : call [] worked_query 63 ≡ outcome (Planned 62) (totals_bytes 0 0 ++ (7 ∷ [])) (replicate 4 8) (replicate 5 9)
+pub empty_sheet : call [] worked_query 63 ≡ outcome (Ok 62) (totals_bytes 0 0 ++ (7 ∷ [])) (replicate 4 8) (replicate 5 9)
 unfolding opened opened_sheet
 empty_sheet = refl
 
 -- ---- refusals
 
 -- "Number 12 zeroes the whole output. It and an accepted plan leave the named scratch places zero and the rest as lent"
-pub no_room : call worked_sheet worked_query 87 ≡ outcome (NoRoom 88) (replicate 87 0) (0 ∷ 8 ∷ 8 ∷ 8 ∷ []) (0 ∷ 0 ∷ 0 ∷ 9 ∷ 9 ∷ [])
+pub no_room : call worked_sheet worked_query 87 ≡ outcome (Err (NoRoom 88)) (replicate 87 0) (0 ∷ 8 ∷ 8 ∷ 8 ∷ []) (0 ∷ 0 ∷ 0 ∷ 9 ∷ 9 ∷ [])
 unfolding worked_text worked_cell worked_sheet opened opened_sheet
 no_room = refl
 
@@ -57,7 +58,7 @@ exact_room = refl
 
 -- "Numbers 1 to 11 touch no memory."
 abbrev untouched : ℕ → ℕ → Outcome
-untouched number offset = outcome (Refused number offset) (replicate 90 7) (replicate 4 8) (replicate 5 9)
+untouched number offset = refused number offset (replicate 90 7) (replicate 4 8) (replicate 5 9)
 
 -- a record of 5 bytes at the end: 2, with its offset, before any question about the query
 pub broken_record : call (worked_sheet ++ (6 ∷ 0 ∷ 0 ∷ 0 ∷ 1 ∷ [])) (viewing (page 100 100) (whole 0) 49 max_scene_objects) 90 ≡ untouched 2 86

@@ -4,10 +4,9 @@ use mathlib.Core.Path.{◌≡◌, refl}
 use Prim.Native.Nat.{ℕ}
 use lib.ListN.{replicate}
 use Rattle.abstract_sheet.proofs.Examples.{worked_text, worked_cell, worked_sheet}
-use Rattle.plan_rules.specs.declared.Answer.TheVariants.{Refused}
 use Rattle.plan_rules.specs.Limits.{max_scene_objects}
 use Rattle.plan_rules.specs.World.{Query}
-use Rattle.plan_rules.specs.Outcome.{outcome, outcome_up_to, outcome_of}
+use Rattle.plan_rules.specs.Outcome.{refused, outcome_up_to, outcome_of}
 use Rattle.plan_rules.specs.Deeper.{former_max_depth}
 use Rattle.plan_rules.proofs.Cases.Opened.{opened}
 use Rattle.plan_rules.proofs.Cases.OpenedSheet.{opened_sheet}
@@ -26,7 +25,7 @@ unfolding worked_text worked_cell worked_sheet opened opened_sheet
 answered_now = (refl, refl, refl, refl)
 
 -- what the former question said of the first of them, and of depth 32
-pub formerly_refused : outcome_up_to former_max_depth worked_sheet (to 33) (replicate 88 7) (replicate 33 8) (replicate 35 9) ≡ outcome (Refused 10 0) (replicate 88 7) (replicate 33 8) (replicate 35 9)
+pub formerly_refused : outcome_up_to former_max_depth worked_sheet (to 33) (replicate 88 7) (replicate 33 8) (replicate 35 9) ≡ refused 10 0 (replicate 88 7) (replicate 33 8) (replicate 35 9)
 unfolding worked_text worked_cell worked_sheet opened opened_sheet
 formerly_refused = refl
 

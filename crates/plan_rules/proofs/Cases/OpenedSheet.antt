@@ -6,11 +6,11 @@ use Rattle.check_record.specs.Frame.{frame_ok}
 use Rattle.check_record.specs.Shape.{lists_at, length_ok, shape_ok}
 use Rattle.check_record.specs.Values.{zero_box, source_ok, grid_ok, reference_ok, cell_ok, values_ok}
 use Rattle.check_record.specs.Floats.{finite_at, floats_from, floats_count, floats_ok}
-use Rattle.check_record.specs.Record.{record_refusal}
+use Rattle.check_record.specs.Record.{check_record}
 use Rattle.check_sheet.specs.Count.{counts_of, tallied}
 use Rattle.check_sheet.specs.Links.{source_named, below_at, lists_named, link_ok}
 use Rattle.check_sheet.specs.Check.{first_no, first_unnamed, check_sheet}
 
 unfoldable pub opened_sheet : ℕ
-unfolding both every frame_ok lists_at length_ok shape_ok zero_box source_ok grid_ok reference_ok cell_ok values_ok finite_at floats_from floats_count floats_ok record_refusal counts_of tallied source_named below_at lists_named link_ok first_no first_unnamed check_sheet
+unfolding both every frame_ok lists_at length_ok shape_ok zero_box source_ok grid_ok reference_ok cell_ok values_ok finite_at floats_from floats_count floats_ok check_record counts_of tallied source_named below_at lists_named link_ok first_no first_unnamed check_sheet
 opened_sheet = 0

@@ -8,8 +8,7 @@ use native.Mathlib.Omega.{arith}
 use lib.Dec.{leb, eqb}
 use lib.Ieee.{Float, lt}
 use borrow.Author.Tests.{lt-leb, ne_eqb}
-use Rattle.screen.specs.declared.CollapseTest.{CollapseTest}
-use Rattle.screen.specs.Screen.{ref_load_threshold_px, collapse_test, collapses, should_collapse_reference}
+use Rattle.screen.specs.Screen.{FirstMet, ref_load_threshold_px, collapse_test, collapses, should_collapse_reference}
 use Rattle.abstract_sheet.specs.Sheet.{CellRecord}
 use Rattle.plan_rules.specs.Maps.{empty_maps, fold_maps, map_or_one, fresh_cell, mapped_cell, mapped_reference_with, mapped_source, mapped_reference}
 use Rattle.plan_rules.specs.Readings.{grid_of_cell, cell_with, grid_units_at, readings, AllHold}
@@ -21,7 +20,7 @@ use Rattle.plan_rules.proofs.Cases.Opened.{opened}
 -- ---- readings of every size
 
 -- a box, whichever of two tests is met first
-settled : (b : Bool) (x y : CollapseTest) → collapses x ≡ true → collapses y ≡ true → collapses (cond b x y) ≡ true
+settled : (b : Bool) (x y : FirstMet) → collapses x ≡ true → collapses y ≡ true → collapses (cond b x y) ≡ true
 settled true x y e f = e
 settled false x y e f = f
 

@@ -34,7 +34,7 @@ use Rattle.plan_rules.specs.World.{Query, hides, detail_cells_full, detail_budge
 use Rattle.plan_rules.specs.Scratch.{open_place, is_marked}
 use Rattle.plan_rules.specs.DrawUnits.{Units, counted, reference_draw_units}
 use Rattle.plan_rules.specs.Push.{say, add_load, add_load_if_boxed, push_found_geometry, push_geometry, push_found_text, push_text, push_point, push_found_node, push_node}
-use Rattle.plan_rules.specs.Visit.{source_units, collapse_reason, halt_with_cell, halt_with_member, VisitReference, VisitSource, geometry_step, text_step, node_step, reference_step, cell_body, visit_found_cell, visit_source_with, member_step, column_step, visit_counted_reference, visit_boxed_reference, visit_sourced_reference, visit_found_reference, visit_reference, visit_cell}
+use Rattle.plan_rules.specs.Visit.{source_units, box_reason, halt_with_cell, halt_with_member, VisitReference, VisitSource, geometry_step, text_step, node_step, reference_step, cell_body, visit_found_cell, visit_source_with, member_step, column_step, visit_counted_reference, visit_boxed_reference, visit_sourced_reference, visit_found_reference, visit_reference, visit_cell}
 use Rattle.plan_rules.specs.Plan.{load_root_box, load_root, visit_root, plan}
 use Rattle.plan_rules.specs.Tape.{no_tag, note, tape}
 use Rattle.plan_rules.specs.Outcome.{fresh_plan, tape_of}
@@ -239,7 +239,7 @@ module _ {P A : Type 0} (enter : Step → P → P) (emit : P → Event → ℕ �
           cond_flow (detail_budget_exhausted q s) (halts (load_same t reason.OtherLimit (label r.source) wb s o k m w a))
           (cond_flow (not (overlaps box q.view)) (goes (say_same here culled_reference s o k m w a))
           (cond_flow (is_subpixel size) (goes (say_same here (skipped_member (source_is_degenerate sb) box) s o k m w a))
-          (cond_flow (collapses test) (goes (load_same here (collapse_reason test) (label r.source) box s o k m w a))
+          (cond_flow (collapses test) (goes (load_same here (box_reason test) (label r.source) box s o k m w a))
           (halt_with_member_same t here (label r.source) box wb (hv here r.source placement s o k m w a)))))
 
       column_same : (u x : ℕ) → KeepsFlow (column_step enter emit S n q f d t r p sb wb u x) (column_step enter beside S 0 q g d t r p sb wb u x)
@@ -255,7 +255,7 @@ module _ {P A : Type 0} (enter : Step → P → P) (emit : P → Event → ℕ �
           let test = collapse_test size.width size.height (grid_count r.grid) u.units d false in
           subst (λ (z : ℕ). Same (visit_counted_reference enter emit S n q f d t r p sb wb u (world s o k m)) (visit_counted_reference enter beside S 0 q g d t r p sb wb (counted z [] []) (world s (o, v.maps) [] []))) e
           (cond_same (collapses test)
-          (load_same t (collapse_reason test) (label r.source) wb s o u.counts u.marks v.maps a)
+          (load_same t (box_reason test) (label r.source) wb s o u.counts u.marks v.maps a)
           (ending_same (each_same _ _ (column_same (source_units u.units (grid_count r.grid))) r.grid.columns 0 s o u.counts u.marks v.maps a)))
 
     boxed_same : (r : PreparedReference) (p : Placement) (sb : WorldBBox) (x : Bounds) → Keeps (visit_boxed_reference enter emit S n q f d t r p sb x) (visit_mapped_boxed enter emit S q g d t r p sb x)

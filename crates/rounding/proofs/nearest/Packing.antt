@@ -2,13 +2,23 @@
 -- Assumes nothing.
 use Rattle.std.proofs.Common.{◌≡◌, ℕ, ◌+◌, ◌-◌, ◌*◌, ◌/◌, ◌%◌, ◌^◌, ◌<◌, ◌≤◌, min, max, sym, ap, ◌∙◌, subst, le_trans, le-add_right, lt_of_le_of_lt, le_of_lt, mul-le-mul_right, mod-eq_of_lt, zero-add, zero-mul, arith, pow_mono, shr_lt}
 use Prim.Native.Nat.{compare}
-use native.Mathlib.Nat.{min-eq_left, min-eq_right}
+use native.Mathlib.Nat.{min-eq_right}
 use lib.Ieee.Fits.{nearest-le}
 use lib.Ieee.Nearest.{closest}
 use Rattle.rounding.specs.Packed.{packed}
 
 abbrev pub Room : ℕ → ℕ → ℕ → ℕ → Type 0
 Room x b p o = (2 ≤ p) × (p ≤ 62) × (x < 2 ^ 32) × (b < 2 ^ 32) × (o * 2 ^ (p - 1) < 2 ^ 63)
+
+-- what a format says of its sizes, said of the numbers that the code has of it
+pub room : {x b p o P O : ℕ} → p ≡ P → o ≡ O → (2 ≤ P) × (P ≤ 62) × (O * 2 ^ (P - 1) < 2 ^ 63) → (x < 2 ^ 32) × (b < 2 ^ 32) → Room x b p o
+room e f s h = (
+  subst (λ (n : ℕ). 2 ≤ n) (sym e) s.0,
+  subst (λ (n : ℕ). n ≤ 62) (sym e) s.1,
+  h.0,
+  h.1,
+  subst (λ (n : ℕ). n < 2 ^ 63) (λ i. sym f i * 2 ^ (sym e i - 1)) s.2,
+)
 
 module _ (m x b p o : ℕ) (P : Room x b p o) where
   abbrev cap : ℕ
@@ -21,7 +31,7 @@ module _ (m x b p o : ℕ) (P : Room x b p o) where
       wider a h = omega arith
 
   -- few digits: none is dropped
-  low_is : 64 + x ≤ b + p → (t : ℕ) → t ≡ closest m (2 ^ (b - x)) → packed p o m x b ≡ min t cap
+  pub low_is : 64 + x ≤ b + p → (t : ℕ) → t ≡ closest m (2 ^ (b - x)) → packed p o m x b ≡ min t cap
   unfolding packed
   low_is g t e =
       ap (λ (k : ℕ). min (k * 2 ^ (p - 1) + closest m (2 ^ max (64 - p) (b - x))) (o * 2 ^ (p - 1))) (none p g)
@@ -34,12 +44,6 @@ module _ (m x b p o : ℕ) (P : Room x b p o) where
 
       most : (p : ℕ) → p ≤ 62 → 64 + x ≤ b + p → max (64 - p) (b - x) ≡ b - x
       most p h g = omega arith
-
-  pub small_packed : 64 + x ≤ b + p → (t : ℕ) → t ≡ closest m (2 ^ (b - x)) → t < cap → t ≡ packed p o m x b
-  small_packed g t e l = sym (low_is g t e ∙ min-eq_left (le_of_lt l))
-
-  pub small_overflows : 64 + x ≤ b + p → (t : ℕ) → t ≡ closest m (2 ^ (b - x)) → cap ≤ t → cap ≡ packed p o m x b
-  small_overflows g t e l = sym (low_is g t e ∙ min-eq_right l)
 
   high_is : b + p < 64 + x → packed p o m x b ≡ min ((64 + x - (b + p)) * 2 ^ (p - 1) + closest m (2 ^ (64 - p))) (o * 2 ^ (p - 1))
   unfolding packed
@@ -81,11 +85,5 @@ module _ (m x b p o : ℕ) (P : Room x b p o) where
         go : (a b c d : ℕ) → a ≡ b → c ≡ d → b < 2 ^ 63 → d ≤ 2 ^ 62 → a + c < 2 ^ 64
         go a b c d p q h k = omega arith
 
-    is : packed p o m x b ≡ min (field + t) cap
-    is = high_is g ∙ ap (λ (y : ℕ). min (y + closest m (2 ^ (64 - p))) (o * 2 ^ (p - 1))) (sym field_is) ∙ ap (λ (y : ℕ). min (field + y) (o * 2 ^ (p - 1))) (sym e) ∙ ap (λ (y : ℕ). min (field + t) y) (sym cap_is)
-
-    pub normal_packed : field + t < cap → field + t ≡ packed p o m x b
-    normal_packed k = sym (is ∙ min-eq_left (le_of_lt k))
-
-    pub normal_overflows : cap ≤ field + t → cap ≡ packed p o m x b
-    normal_overflows k = sym (is ∙ min-eq_right k)
+    pub normal_is : packed p o m x b ≡ min (field + t) cap
+    normal_is = high_is g ∙ ap (λ (y : ℕ). min (y + closest m (2 ^ (64 - p))) (o * 2 ^ (p - 1))) (sym field_is) ∙ ap (λ (y : ℕ). min (field + y) (o * 2 ^ (p - 1))) (sym e) ∙ ap (λ (y : ℕ). min (field + t) y) (sym cap_is)

@@ -11,8 +11,8 @@ unfolding reference_screen_size of_bits
 returns-then-source_is_degenerate c =
     let s = c.screen_size-size.ensures in
     rw c.if-source_is_degenerate.true
-    (λ i. size ((c.f32_max.ensures ∙ ap (λ (z : ScreenSize). max_num z.width min_fixed_content_px) s) i)
-    ((c.f32_max-then-source_is_degenerate.ensures ∙ ap (λ (z : ScreenSize). max_num z.height min_fixed_content_px) s) i))
+    (λ i. size ((c.max.ensures ∙ ap (λ (z : ScreenSize). max_num z.width min_fixed_content_px) s) i)
+    ((c.max-then-source_is_degenerate.ensures ∙ ap (λ (z : ScreenSize). max_num z.height min_fixed_content_px) s) i))
 
 pub returns : goal.returns
 unfolding reference_screen_size

@@ -1,8 +1,8 @@
 -- The falling number is 4 * depth and the place in the order reference, number, cell, source: a source asks a cell or a number at its own depth, a cell
 -- a number and a number its reference at its own depth, and a reference its source one depth below.
-use Prim.Native.Nat.{◌+◌, ◌-◌, ◌*◌, ◌≤◌}
+use Prim.Native.Nat.{◌+◌, ◌-◌, ◌*◌}
 use mathlib.Core.Path.{◌≡◌}
-use lib.ListN.{length}
+use Rattle.scratch.specs.Lent.{StaysLent}
 use Rattle.plan_rules.specs.DrawUnits.{counted, fold}
 use Rattle.units.proofs.Exits
 use Rattle.units.proofs.+draw_units.Given as goal
@@ -23,12 +23,7 @@ decreases-source_draw_units l = 4 * l.depth + 4
 abbrev pub invariant-cell_draw_units-loop-i : goal.invariant-cell_draw_units-loop-i
 invariant-cell_draw_units-loop-i l =
     record {
-      within : l.i ≤ l.references;
-      counts_length : length l.counts ≡ length l.initial.counts;
-      marks_length : length l.marks ≡ length l.initial.marks;
-      folded : fold (Exits.added_at l.sheet l.finder l.kinds l.depth l.at) l.references 0 (counted l.initial.count l.initial.counts l.initial.marks)
-          ≡ fold (Exits.added_at l.sheet l.finder l.kinds l.depth l.at) (l.references - l.i) l.i (counted l.count l.counts l.marks);
+      lent : StaysLent l.fn.scratch l.scratch;
+      folded : fold (Exits.added_at l.sheet l.finder l.kinds l.depth l.at) l.references 0 (counted l.initial.count l.initial.scratch.counts.now l.initial.scratch.marks.now)
+          ≡ fold (Exits.added_at l.sheet l.finder l.kinds l.depth l.at) (l.references - l.i) l.i (counted l.count l.scratch.counts.now l.scratch.marks.now);
     }
-
-abbrev pub decreases-cell_draw_units-loop-i : goal.decreases-cell_draw_units-loop-i
-decreases-cell_draw_units-loop-i l = l.references - l.i

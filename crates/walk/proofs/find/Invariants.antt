@@ -1,12 +1,12 @@
-use Prim.Native.Nat.{◌-◌}
+use Prim.Native.Nat.{ℕ}
 use mathlib.Core.Path.{◌≡◌}
-use lib.ListN.{length}
-use Rattle.walk.specs.Find.{find}
-use Rattle.walk.proofs.Finding.{find_from}
+use mathlib.Core.List.{List}
+use Rattle.walk.specs.Find.{find, find_in}
+use Rattle.walk.specs.Heads.{heads_at, left}
 use Rattle.walk.proofs.find.Given as goal
 
-abbrev pub invariant-loop-at : goal.invariant-loop-at
-invariant-loop-at l = find_from l.s l.kind l.left l.at ≡ find l.s l.kind l.number
-
-abbrev pub decreases-loop-at : goal.decreases-loop-at
-decreases-loop-at l = length l.s - l.at
+abbrev pub invariant-loop-head : goal.invariant-loop-head
+invariant-loop-head l =
+    (goal.iterator-loop-head).can_next l.head-iterator
+    × (goal.iterator-loop-head).is_finite l.head-iterator
+    × ((xs : List ℕ) × (left l.head-iterator ≡ heads_at l.s xs) × (find_in l.s l.kind l.left xs ≡ find l.s l.kind l.number))

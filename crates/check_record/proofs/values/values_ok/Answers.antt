@@ -2,25 +2,11 @@
 -- Assumes nothing.
 use mathlib.Core.Path.{sym, ◌∙◌}
 use native.Mathlib.Omega.{arith}
-use Rattle.check_record.proofs.Tests.{tests}
-use Rattle.check_record.specs.Values.{values_ok}
 use Rattle.check_record.proofs.Facts.Lengths.{shape_sized}
 use Rattle.check_record.proofs.values.values_ok.Goals as goal
 
 pub reference_ok-requires : goal.reference_ok-requires
-reference_ok-requires c = let p = c.requires in omega (arith, p.whole, (shape_sized _ _ p.at_value).reference (sym c.u16_within-kind.ensures ∙ c.if-kind-eq4.true))
-
-pub returns-then-kind-eq4 : goal.returns-then-kind-eq4
-unfolding values_ok
-returns-then-kind-eq4 c = search (tests, ← c.u16_within-kind.ensures)
+reference_ok-requires c = let p = c.requires in omega (arith, p.whole, (shape_sized _ _ p.at_value).reference (sym c.u16_within-kind.ensures ∙ c.in-4.is))
 
 pub cell_ok-requires : goal.cell_ok-requires
-cell_ok-requires c = let p = c.requires in omega (arith, p.whole, (shape_sized _ _ p.at_value).cell (sym c.u16_within-kind.ensures ∙ c.if-kind-eq5.true))
-
-pub returns-then-kind-eq5 : goal.returns-then-kind-eq5
-unfolding values_ok
-returns-then-kind-eq5 c = search (tests, ← c.u16_within-kind.ensures)
-
-pub returns : goal.returns
-unfolding values_ok
-returns c = search (tests, ← c.u16_within-kind.ensures)
+cell_ok-requires c = let p = c.requires in omega (arith, p.whole, (shape_sized _ _ p.at_value).cell (sym c.u16_within-kind.ensures ∙ c.in-5.is))

@@ -1,13 +1,13 @@
 -- `check_sheet::links::all_below` meets its contract. The loop's invariant: what is left to test from here is the whole.
 -- Assumes nothing.
-use Prim.Native.Nat.{ℕ, ◌≤◌, ◌<◌}
-use mathlib.Core.Path.{◌≡◌, refl, sym, ◌∙◌}
+use Prim.Native.Nat.{ℕ, ◌+◌, ◌*◌, ◌≤◌, ◌<◌}
+use mathlib.Core.Path.{◌≡◌, sym, ◌∙◌}
 use native.Mathlib.Omega.{arith}
 use mathlib.Core.List.{List}
 use mathlib.Core.Bool.{true, false}
 use borrow.Author.Tests.{lt-ltb, le-ltb}
 use Rattle.fields.specs.Field.{uint_at}
-use Rattle.check_record.proofs.Tests.{every_pass, every_fail, every_none}
+use Rattle.check_record.proofs.Tests.{every_next, every_stop, every_done}
 use Rattle.check_sheet.specs.Links.{below_at}
 use Rattle.check_sheet.proofs.links.all_below.Goals as goal
 
@@ -20,32 +20,17 @@ module _ (s : List ℕ) (bound at : ℕ) where
   unfolding below_at
   not_below h = le-ltb _ _ h
 
-pub loop-left-init : goal.loop-left-init
-loop-left-init c = (c.requires, refl)
-
-pub u32_within-requires : goal.u32_within-requires
-u32_within-requires c = omega arith
-
-pub overflow_add-at : goal.overflow_add-at
-overflow_add-at c = omega arith
-
-pub overflow_sub-left : goal.overflow_sub-left
-overflow_sub-left c = omega arith
-
-pub loop-left-smaller : goal.loop-left-smaller
-loop-left-smaller c = omega arith
-
-pub loop-left-preserved : goal.loop-left-preserved
-loop-left-preserved c =
-    let l = c.loop-left in
+pub loop-i-preserved : goal.loop-i-preserved
+loop-i-preserved c =
     let a = c.args in
-    (omega arith, sym (every_pass (below_at a.s.now a.bound) 4 l.left l.at (omega arith) (below _ _ _ (omega arith))) ∙ l.invariant.1)
+    let here = below a.s.now a.bound (a.from + 4 * c.loop-i.i) (omega arith) in
+    sym (every_next (below_at a.s.now a.bound) 4 a.count a.from c.loop-i.i c.loop-i-test.true here) ∙ c.loop-i.invariant
 
-pub returns-else-u32_within-bound : goal.returns-else-u32_within-bound
-returns-else-u32_within-bound c =
-    let l = c.loop-left in
+pub returns-then-bound-u32_within : goal.returns-then-bound-u32_within
+returns-then-bound-u32_within c =
     let a = c.args in
-    sym (sym l.invariant.1 ∙ every_fail (below_at a.s.now a.bound) 4 l.left l.at (omega arith) (not_below _ _ _ (omega arith)))
+    let here = not_below a.s.now a.bound (a.from + 4 * c.loop-i.i) (omega arith) in
+    sym (every_stop (below_at a.s.now a.bound) 4 a.count a.from c.loop-i.i c.loop-i-test.true here) ∙ c.loop-i.invariant
 
 pub returns : goal.returns
-returns c = let l = c.loop-left in sym (sym l.invariant.1 ∙ every_none _ 4 l.left l.at (omega arith))
+returns c = let a = c.args in sym (every_done (below_at a.s.now a.bound) 4 a.count a.from c.loop-i.i c.loop-i-test.false) ∙ c.loop-i.invariant

@@ -7,7 +7,7 @@ use Rattle.walk.specs.Offsets.{length_at}
 use Rattle.check_record.specs.Record.{Right}
 use Rattle.check_sheet.proofs.Remaining.{Remaining, all_remain, none_remain, remains_right, asked_passed, other_passed, asked_refused}
 use Rattle.check_sheet.proofs.links.links.Goals as goal
-use Rattle.check_sheet.proofs.links.links.Goals.{then-kind-gt3+then-link_ok, else-kind-gt3}
+use Rattle.check_sheet.proofs.links.links.Goals.{then-kind-gt3+else-not-link_ok, else-kind-gt3}
 use Rattle.check_sheet.proofs.links.links.Lts as lts
 use Rattle.check_sheet.proofs.links.links.Reads as reads
 use Rattle.check_sheet.proofs.links.links.Tie as tie
@@ -33,9 +33,9 @@ tally-own-requires c =
     let i = c.before.before.before.before.before in
     omega (arith, i.loop-to_ask.invariant.most, (right i).whole, i.requires.s_len_bound)
 
-pub returns-else-link_ok : goal.returns-else-link_ok
-returns-else-link_ok c =
-    asked_refused _ _ _ _ _ c.loop-to_ask.invariant (omega (arith, c.loop-to_ask-test.true)) (sym c.link_ok.ensures ∙ c.if-link_ok.false)
+pub returns-then-not-link_ok : goal.returns-then-not-link_ok
+returns-then-not-link_ok c =
+    asked_refused _ _ _ _ _ c.loop-to_ask.invariant (omega (arith, c.loop-to_ask-test.true)) (sym c.link_ok.ensures ∙ c.if-not-link_ok.true)
 
 pub next_within-at-requires : goal.next_within-at-requires
 next_within-at-requires c = let i = c.before.before.before in record { s_len_bound = i.requires.s_len_bound; whole = (right i).whole }
@@ -51,9 +51,9 @@ joined c =
     let l = c.loop-to_ask in
     let kind = c.kind_within-kind.ensures in
     elim c.if-kind-gt3.branch [
-      | then-kind-gt3+then-link_ok w ↦
+      | then-kind-gt3+else-not-link_ok w ↦
           rw (w.own-is, w.to_ask-is, w.tally-own.ensures, kind)
-          (asked_passed _ _ _ _ _ l.invariant (omega (arith, c.loop-to_ask-test.true)) (rw kind at w.if-kind-gt3.true) (sym w.link_ok.ensures ∙ w.if-link_ok.true))
+          (asked_passed _ _ _ _ _ l.invariant (omega (arith, c.loop-to_ask-test.true)) (rw kind at w.if-kind-gt3.true) (sym w.link_ok.ensures ∙ w.if-not-link_ok.false))
       | else-kind-gt3 w ↦ rw (w.own-is, w.to_ask-is) (other_passed _ _ _ _ _ l.invariant (omega (arith, c.loop-to_ask-test.true)) (rw kind at w.if-kind-gt3.false))
     ]
 

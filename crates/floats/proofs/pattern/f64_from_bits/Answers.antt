@@ -7,7 +7,7 @@ use lib.Bits.{and_mask}
 use lib.Dec.{T, lt→ltb}
 use lib.Ieee.{binary64, nan_bits, of_bits}
 use lib.Ieee.Bits.{is_true, nan_bits_is, nan_bits_above}
-use Rattle.floats.proofs.Nans.{nan_of_test, zero_by_zero}
+use Rattle.floats.proofs.Nans.{nan_of_test, nan_64}
 use Rattle.floats.proofs.pattern.f64_from_bits.Goals as goal
 
 number : (n : ℕ) → n % 2 ^ 63 ≤ 0x7ff0_0000_0000_0000 → T (not (nan_bits binary64 n))
@@ -24,5 +24,5 @@ float_from_bits-result c =
 pub returns-else-n-le9218868437227405312 : goal.returns-else-n-le9218868437227405312
 returns-else-n-le9218868437227405312 c =
     let n = c.args.n in
-    zero_by_zero binary64
+    nan_64
     ∙ sym (nan_of_test (of_bits binary64 n) (sym (nan_bits_is binary64 n) ∙ not_number n (subst (λ (x : ℕ). 0x7ff0_0000_0000_0000 < x) (and_mask n 63) c.if-n-le9218868437227405312.false)))

@@ -1,12 +1,13 @@
 -- `fused::wide::shift_to_odd` meets its contract. Assumes nothing.
-use Rattle.fused.specs.TwoWords.{wide}
-use Rattle.fused.proofs.wide.Shifts.{shift_word_to_odd, shift_all_to_odd}
+use Rattle.fused.proofs.wide.Shifts.{shift_none, shift_part, shift_all}
 use Rattle.fused.proofs.wide.shift_to_odd.Goals as goal
 
+pub returns-then-d-eq0 : goal.returns-then-d-eq0
+returns-then-d-eq0 c = shift_none c.args.n c.args.d c.if-d-eq0.true
+
 pub returns-then-d-lt128 : goal.returns-then-d-lt128
-returns-then-d-lt128 c =
-    shift_word_to_odd c.args.hi c.args.lo c.with_sticky.result c.args.d (wide c.shift_within_word-then-d-lt128.result) c.ranges.lo.fits c.if-d-lt64.false c.with_sticky.ensures c.shift_within_word-then-d-lt128.ensures
+returns-then-d-lt128 c = shift_part c.args.n c.args.d c.if-d-lt128.true c.with_sticky.result c.with_sticky.ensures
 
 pub returns-else-d-lt128 : goal.returns-else-d-lt128
 returns-else-d-lt128 c =
-    shift_all_to_odd c.args.hi c.args.lo c.with_sticky-kept.result c.args.d c.ranges.hi.fits c.ranges.lo.fits c.if-d-lt128.false c.with_sticky-kept.ensures
+    shift_all c.args.n c.args.d c.with_sticky-else-d-lt128.result c.ranges.n.fits c.if-d-lt128.false c.with_sticky-else-d-lt128.ensures

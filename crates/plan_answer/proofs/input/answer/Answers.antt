@@ -1,28 +1,35 @@
 -- `plan_answer::input::answer` meets its contract: what the input begins with decides.
 -- Assumes nothing.
-use native.Mathlib.Omega.{arith}
+use Rattle.std.proofs.Common.{refl}
+use Rattle.std.proofs.lemmas.Result.{err_from_is_err_and}
 use Rattle.plan_query.proofs.Reading.{query_within}
-use Rattle.plan_answer.proofs.Replies.{first_reply, no_query_reply, too_long_reply}
+use Rattle.plan_answer.proofs.Replies.{first_reply, query_reply}
 use Rattle.plan_answer.proofs.input.answer.Goals as goal
 
-pub plan_query-requires : goal.plan_query-requires
-plan_query-requires c =
-    let a = c.args in
-    let within = query_within a.input.now a.hidden.now (rw c.in-Query.is at c.read_query-first.ensures) in
-    record { sheet_within = within.0; layers_within = within.1 }
+pub plan_query-requires-clause-sheet_within : goal.plan_query-requires-clause-sheet_within
+plan_query-requires-clause-sheet_within c = (query_within c.args.input.now c.args.lent.now.hidden.now c.in_ok-query.ensures).0
 
-pub returns-in-Query : goal.returns-in-Query
-returns-in-Query c =
-    let planned = c.plan_query in
-    let a = c.args in
-    record { replies = first_reply a.input.now a.finder.now a.hidden.now a.tape.now a.counts.now a.marks.now (rw c.in-Query.is at c.read_query-first.ensures) planned.ensures.replies; within = planned.ensures.within }
+pub plan_query-requires-clause-layers_within : goal.plan_query-requires-clause-layers_within
+plan_query-requires-clause-layers_within c = (query_within c.args.input.now c.args.lent.now.hidden.now c.in_ok-query.ensures).1
 
-pub returns-in-NoQuery : goal.returns-in-NoQuery
-returns-in-NoQuery c =
-    let a = c.args in
-    record { replies = first_reply a.input.now a.finder.now a.hidden.now a.tape.now a.counts.now a.marks.now (rw c.in-NoQuery.is at c.read_query-first.ensures) (no_query_reply a.input.now a.finder.now a.hidden.now a.tape.now a.counts.now a.marks.now); within = omega arith }
+pub returns-in_err-query-clause-replies : goal.returns-in_err-query-clause-replies
+returns-in_err-query-clause-replies c =
+    let s = c.args.input.now in
+    let t = c.args.lent.now in
+    let p = err_from_is_err_and c.from_residual.result c.from_residual.ensures.1 in
+    let left = first_reply s t.finder.now t.hidden.now t.tape.now t.counts.now t.marks.now c.in_err-query.ensures (query_reply c.in_err-query.field-0.0 s t.finder.now t.hidden.now t.tape.now t.counts.now t.marks.now) in
+    rw (p.1, p.2)
+    (record { same_finder = refl; same_hidden = refl; same_tape = refl; same_counts = refl; same_marks = refl; left = left })
 
-pub returns-in-TooLong : goal.returns-in-TooLong
-returns-in-TooLong c =
-    let a = c.args in
-    record { replies = first_reply a.input.now a.finder.now a.hidden.now a.tape.now a.counts.now a.marks.now (rw c.in-TooLong.is at c.read_query-first.ensures) (too_long_reply a.input.now a.finder.now a.hidden.now a.tape.now a.counts.now a.marks.now); within = omega arith }
+pub returns-clause-replies : goal.returns-clause-replies
+returns-clause-replies c =
+    let t = c.args.lent.now in
+    let p = c.plan_query.ensures.replies in
+    record {
+      same_finder = p.same_finder;
+      same_hidden = p.same_hidden;
+      same_tape = p.same_tape;
+      same_counts = p.same_counts;
+      same_marks = p.same_marks;
+      left = first_reply c.args.input.now t.finder.now t.hidden.now t.tape.now t.counts.now t.marks.now c.in_ok-query.ensures p.left;
+    }

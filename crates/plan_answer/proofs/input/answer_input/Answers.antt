@@ -1,27 +1,14 @@
--- `plan_answer::input::answer_input` meets its contract: how far the input could be read decides. Assumes nothing.
-use mathlib.Core.Path.{sym}
-use native.Mathlib.Omega.{arith}
-use lib.Seq.{length-take-le}
-use Rattle.streams.proofs.Meanings.{whole_within}
-use Rattle.plan_answer.proofs.Replies.{whole_input, too_long_input, unreadable_input}
+-- `plan_answer::input::answer_input` meets its contract: an input that could not be read to its end is answered by a line.
+-- Assumes nothing.
+use Rattle.std.proofs.Common.{refl}
+use Rattle.std.proofs.lemmas.Result.{err_from_is_err_and}
+use Rattle.plan_answer.proofs.Replies.{input_reply}
 use Rattle.plan_answer.proofs.input.answer_input.Goals as goal
 
-pub slice_bounds-answer-end : goal.slice_bounds-answer-end
-slice_bounds-answer-end c =
-    sym (length-take-le _ _ (whole_within c.args.buffer.now c.requires c.in-Whole.is))
-
-pub returns-in-Whole : goal.returns-in-Whole
-returns-in-Whole c =
-    let a = c.args in
-    let call = c.answer in
-    record { replies = whole_input a.buffer.now a.finder.now a.hidden.now a.tape.now a.counts.now a.marks.now c.in-Whole.is call.ensures.replies; within = call.ensures.within }
-
-pub returns-in-TooLong : goal.returns-in-TooLong
-returns-in-TooLong c =
-    let a = c.args in
-    record { replies = too_long_input a.buffer.now a.finder.now a.hidden.now a.tape.now a.counts.now a.marks.now c.in-TooLong.is; within = omega arith }
-
-pub returns-in-Unreadable : goal.returns-in-Unreadable
-returns-in-Unreadable c =
-    let a = c.args in
-    record { replies = unreadable_input a.buffer.now a.finder.now a.hidden.now a.tape.now a.counts.now a.marks.now c.in-Unreadable.is; within = omega arith }
+pub returns-in_err-size-clause-replies : goal.returns-in_err-size-clause-replies
+returns-in_err-size-clause-replies c =
+    let t = c.args.lent.now in
+    let p = err_from_is_err_and c.from_residual.result c.from_residual.ensures.1 in
+    let left = input_reply c.in_err-size.field-0.0 c.args.buffer.now t.finder.now t.hidden.now t.tape.now t.counts.now t.marks.now in
+    rw (p.1, p.2, c.in_err-size.was)
+    (record { same_finder = refl; same_hidden = refl; same_tape = refl; same_counts = refl; same_marks = refl; left = left })

@@ -1,33 +1,29 @@
 -- `plan_answer::input::plan_query` meets its contract: what the planner's outcome tells is what is said.
 -- Assumes nothing.
-use mathlib.Core.Path.{sym}
-use native.Mathlib.Omega.{arith}
-use lib.Seq.{length-take-le}
 use Rattle.plan_text.proofs.TapeLines.{from_here}
-use Rattle.plan_answer.proofs.Replies.{tape_reply, tape_within, refusal_reply, no_room_reply}
+use Rattle.plan_answer.proofs.Replies.{tape_reply, tape_within, refusal_reply, left_in}
 use Rattle.plan_answer.proofs.input.plan_query.Goals as goal
 
-pub slice_bounds-plan_opened-end-2 : goal.slice_bounds-plan_opened-end-2
-slice_bounds-plan_opened-end-2 c = sym (length-take-le _ _ (omega arith))
-
-pub returns-in-Planned : goal.returns-in-Planned
-returns-in-Planned c =
+pub returns-in-Ok-clause-replies : goal.returns-in-Ok-clause-replies
+returns-in-Ok-clause-replies c =
     let a = c.args in
-    let opened = rw (from_here a.input.now a.query.sheet) at c.plan_opened.ensures.finder_left in
-    let call = rw (from_here a.input.now a.query.sheet) at c.plan_opened.ensures.outcome in
-    let is = c.in-Planned.is in
-    record { replies = tape_reply a.input.now a.query a.finder.now a.hidden.now a.tape.now a.counts.now a.marks.now _ opened call is; within = tape_within a.input.now a.query a.finder.now a.hidden.now a.tape.now a.counts.now a.marks.now _ opened call is }
+    let t = c.take-finder.result in
+    let opened = rw (from_here a.input.now a.query.sheet) at c.plan_opened-planned.ensures.finder_left in
+    let call = rw (from_here a.input.now a.query.sheet) at c.plan_opened-planned.ensures.outcome in
+    left_in c.take-finder.ensures.value (tape_reply a.input.now a.query t.finder.now t.hidden.now t.tape.now t.counts.now t.marks.now _ opened call c.in-Ok.is)
 
-pub returns-in-Refused : goal.returns-in-Refused
-returns-in-Refused c =
+pub returns-in-Ok-clause-within : goal.returns-in-Ok-clause-within
+returns-in-Ok-clause-within c =
     let a = c.args in
-    let opened = rw (from_here a.input.now a.query.sheet) at c.plan_opened.ensures.finder_left in
-    let call = rw (from_here a.input.now a.query.sheet) at c.plan_opened.ensures.outcome in
-    record { replies = refusal_reply a.input.now a.query a.finder.now a.hidden.now a.tape.now a.counts.now a.marks.now _ opened call c.in-Refused.is; within = omega arith }
+    let t = c.take-finder.result in
+    let opened = rw (from_here a.input.now a.query.sheet) at c.plan_opened-planned.ensures.finder_left in
+    let call = rw (from_here a.input.now a.query.sheet) at c.plan_opened-planned.ensures.outcome in
+    tape_within a.input.now a.query t.finder.now t.hidden.now t.tape.now t.counts.now t.marks.now _ opened call c.in-Ok.is
 
-pub returns-in-NoRoom : goal.returns-in-NoRoom
-returns-in-NoRoom c =
+pub returns-in-Err-clause-replies : goal.returns-in-Err-clause-replies
+returns-in-Err-clause-replies c =
     let a = c.args in
-    let opened = rw (from_here a.input.now a.query.sheet) at c.plan_opened.ensures.finder_left in
-    let call = rw (from_here a.input.now a.query.sheet) at c.plan_opened.ensures.outcome in
-    record { replies = no_room_reply a.input.now a.query a.finder.now a.hidden.now a.tape.now a.counts.now a.marks.now _ opened call c.in-NoRoom.is; within = omega arith }
+    let t = c.take-finder.result in
+    let opened = rw (from_here a.input.now a.query.sheet) at c.plan_opened-planned.ensures.finder_left in
+    let call = rw (from_here a.input.now a.query.sheet) at c.plan_opened-planned.ensures.outcome in
+    left_in c.take-finder.ensures.value (refusal_reply a.input.now a.query t.finder.now t.hidden.now t.tape.now t.counts.now t.marks.now _ opened call c.in-Err.error c.in-Err.is c.number.ensures c.offset.ensures)

@@ -1,6 +1,5 @@
--- `plan_text::line::put_batch` meets its contract: its pieces are written one after the other.
--- Assumes nothing.
-use native.Mathlib.Omega.{arith}
+-- `plan_text::line::put_batch` meets its contract: its pieces are written one after the other. Assumes nothing.
+use Rattle.std.proofs.Common.{arith}
 use Rattle.plan_text.specs.Text.{number}
 use Rattle.plan_text.proofs.Pieces.{◌⨾◌, roomy, said}
 use Rattle.plan_text.proofs.line.put_batch.Goals as goal
@@ -8,7 +7,7 @@ use Rattle.plan_text.proofs.line.put_batch.Goals as goal
 pub returns : goal.returns
 returns c =
     roomy (omega arith)
-    (c.put_word-word.ensures
-    ⨾ said number c.u32_at.ensures c.put_number-number.ensures
-    ⨾ c.put_floats-floats.ensures
-    ⨾ c.put_word.ensures)
+    (c.word.ensures
+    ⨾ said number c.u32_at.ensures c.put.ensures
+    ⨾ c.fields.ensures
+    ⨾ c.word-2.ensures)

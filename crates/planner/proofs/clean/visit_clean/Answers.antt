@@ -1,14 +1,15 @@
 -- `planner::clean::visit_clean` meets its contract: its steps are a sweep, by `Sweep`.
 -- Assumes nothing.
-use mathlib.Core.Path.{◌∙◌}
-use Rattle.plan_rules.specs.OnTape.{given}
-use Rattle.planner.proofs.Sweep.{clean}
+use mathlib.Core.Path.{sym, ◌∙◌}
+use Rattle.plan_rules.specs.OnTape.{given_of}
+use Rattle.planner.proofs.Sweep.{default_is_empty, clean}
 use Rattle.planner.proofs.clean.visit_clean.Goals as goal
 
 pub returns : goal.returns
 returns c =
     let a = c.args in
-    clean (given a.fixed a.sheet a.finder a.hidden) _ a.counts.now a.marks.now _ _ _ _ _ _ _ _ _ c.clear_counts.ensures c.clear_bytes.ensures c.empty_plan.ensures c.visit_root-plan.ensures
-    (c.visit_root-plan.auto.counts ∙ c.clear_counts.auto.d)
-    (c.visit_root-plan.auto.marks ∙ c.clear_bytes.auto.d)
-    c.clear_counts-2.ensures c.clear_bytes-2.ensures
+    clean (given_of a.given.now) _ a.counts.now a.marks.now _ _ _ _ _ _ _ _ _ (c.fill.ensures.after (λ y e. e)) (c.fill-2.ensures.after (λ y e. e)) (default_is_empty _ c.default.ensures) c.visit_root-plan.ensures.visits
+    (c.visit_root-plan.ensures.others.2 ∙ c.fill.ensures.len)
+    (c.visit_root-plan.ensures.others.3 ∙ c.fill-2.ensures.len)
+    (c.counts-1.given.1.1 (sym c.visit_root-plan.ensures.others.0) ∙ c.fill-3.ensures.after (λ y e. e))
+    (c.marks-1.given.1.1 (sym c.visit_root-plan.ensures.others.1) ∙ c.fill-4.ensures.after (λ y e. e))

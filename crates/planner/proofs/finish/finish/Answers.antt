@@ -14,4 +14,4 @@ returns-then-whole-out c =
 pub returns : goal.returns
 returns c =
     let listed = c.list_totals-whole in
-    λ k m. tape_exceeds (world listed.result listed.new.out k m) c.if-whole-out.false c.clear_bytes.ensures ∙ ap answered (listed.ensures k m)
+    λ k m. tape_exceeds (world listed.result listed.new.out k m) c.if-whole-out.false (c.fill.ensures.after (λ y e. e)) ∙ ap answered (listed.ensures k m)

@@ -1,27 +1,38 @@
 -- `rounding::nearest::pack` meets its contract. Assumes nothing.
-use Rattle.rounding.proofs.nearest.Packing.{small_packed, small_overflows, past_infinity, magnitude_fits, normal_packed, normal_overflows}
+use mathlib.Core.Path.{sym, ◌∙◌}
+use Rattle.rounding.specs.Packed.{packed}
+use Rattle.rounding.proofs.nearest.Packing.{room, low_is, past_infinity, magnitude_fits, normal_is}
 use Rattle.rounding.proofs.nearest.pack.Goals as goal
 
+pub returns-then-up-down : goal.returns-then-up-down
+returns-then-up-down g c =
+    let p = c.PRECISION-precision in
+    let o = c.ONES-ones in
+    let a = c.args in
+    c.min.ensures
+    ∙ sym (low_is a.m a.up a.down p.result o.result (room p.ensures o.ensures g.F.Format.sizes c.requires) c.if-up-down.true c.shift_to_nearest.result c.shift_to_nearest.ensures)
+    ∙ (λ i. packed (p.ensures i) (o.ensures i) a.m a.up a.down)
+
 pub returns-then-field-ones : goal.returns-then-field-ones
-returns-then-field-ones c =
-    past_infinity c.args.m c.args.up c.args.down c.args.precision c.args.ones c.requires c.if-up-down.false c.if-field-ones.true
+returns-then-field-ones g c =
+    let p = c.PRECISION-precision in
+    let o = c.ONES-ones in
+    let a = c.args in
+    past_infinity a.m a.up a.down p.result o.result (room p.ensures o.ensures g.F.Format.sizes c.requires) c.if-up-down.false c.if-field-ones.true
+    ∙ (λ i. packed (p.ensures i) (o.ensures i) a.m a.up a.down)
 
 pub overflow_add-magnitude : goal.overflow_add-magnitude
-overflow_add-magnitude c =
-    record { fits = magnitude_fits c.args.m c.args.up c.args.down c.args.precision c.args.ones c.requires c.if-up-down.false c.if-field-ones.false c.shift_to_nearest.result c.shift_to_nearest.ensures c.ranges.m.fits }
+overflow_add-magnitude g c =
+    let p = c.PRECISION-precision in
+    let o = c.ONES-ones in
+    let a = c.args in
+    record { fits = magnitude_fits a.m a.up a.down p.result o.result (room p.ensures o.ensures g.F.Format.sizes c.requires) c.if-up-down.false c.if-field-ones.false c.shift_to_nearest-2.result c.shift_to_nearest-2.ensures c.ranges.m.fits }
 
-pub returns-then-digits-infinity : goal.returns-then-digits-infinity
-returns-then-digits-infinity c =
-    small_packed c.args.m c.args.up c.args.down c.args.precision c.args.ones c.requires c.if-up-down.true c.shift_to_nearest-digits.result c.shift_to_nearest-digits.ensures c.if-digits-infinity.true
-
-pub returns-else-digits-infinity : goal.returns-else-digits-infinity
-returns-else-digits-infinity c =
-    small_overflows c.args.m c.args.up c.args.down c.args.precision c.args.ones c.requires c.if-up-down.true c.shift_to_nearest-digits.result c.shift_to_nearest-digits.ensures c.if-digits-infinity.false
-
-pub returns-then-magnitude-infinity : goal.returns-then-magnitude-infinity
-returns-then-magnitude-infinity c =
-    normal_packed c.args.m c.args.up c.args.down c.args.precision c.args.ones c.requires c.if-up-down.false c.if-field-ones.false c.shift_to_nearest.result c.shift_to_nearest.ensures c.ranges.m.fits c.if-magnitude-infinity.true
-
-pub returns-else-magnitude-infinity : goal.returns-else-magnitude-infinity
-returns-else-magnitude-infinity c =
-    normal_overflows c.args.m c.args.up c.args.down c.args.precision c.args.ones c.requires c.if-up-down.false c.if-field-ones.false c.shift_to_nearest.result c.shift_to_nearest.ensures c.ranges.m.fits c.if-magnitude-infinity.false
+pub returns : goal.returns
+returns g c =
+    let p = c.PRECISION-precision in
+    let o = c.ONES-ones in
+    let a = c.args in
+    c.min-2.ensures
+    ∙ sym (normal_is a.m a.up a.down p.result o.result (room p.ensures o.ensures g.F.Format.sizes c.requires) c.if-up-down.false c.if-field-ones.false c.shift_to_nearest-2.result c.shift_to_nearest-2.ensures c.ranges.m.fits)
+    ∙ (λ i. packed (p.ensures i) (o.ensures i) a.m a.up a.down)

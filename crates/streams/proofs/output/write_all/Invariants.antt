@@ -6,7 +6,7 @@ use Rattle.streams.proofs.output.write_all.Given as goal
 abbrev pub invariant-loop-done : goal.invariant-loop-done
 invariant-loop-done g l = record {
   in_range : l.done ≤ length l.bytes;
-  bytes : Appends (g.W.Write.contents l.fn.to.out) (g.W.Write.contents l.to.out) (take l.done l.bytes);
+  bytes : Appends (g.W.Write.contents l.fn.out) (g.W.Write.contents l.out) (take l.done l.bytes);
 }
 
 abbrev pub decreases-loop-done : goal.decreases-loop-done

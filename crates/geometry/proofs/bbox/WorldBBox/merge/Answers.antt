@@ -5,4 +5,4 @@ use Rattle.geometry.proofs.bbox.WorldBBox.merge.Goals as goal
 pub returns : goal.returns
 unfolding merge
 returns c =
-    λ i. bbox (c.f64_min.ensures i) (c.f64_min-2.ensures i) (c.f64_max.ensures i) (c.f64_max-2.ensures i)
+    λ i. bbox (c.min.ensures i) (c.min-2.ensures i) (c.max.ensures i) (c.max-2.ensures i)

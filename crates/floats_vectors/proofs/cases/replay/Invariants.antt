@@ -1,9 +1,0 @@
--- What is left of the text falls.
-use Rattle.std.proofs.Common.{◌≤◌, ◌-◌, length}
-use Rattle.floats_vectors.proofs.cases.replay.Given as goal
-
-abbrev pub invariant-loop-at : goal.invariant-loop-at
-invariant-loop-at l = l.at ≤ length l.s
-
-abbrev pub decreases-loop-at : goal.decreases-loop-at
-decreases-loop-at l = length l.s - l.at

@@ -1,2 +1,0 @@
--- What the contracts of `floats_vectors` cite.
-pub mod Progress

@@ -1,0 +1,12 @@
+-- `plan_text::line::put_refusal` meets its contract: its pieces are written one after the other. Assumes nothing.
+use Rattle.std.proofs.Common.{arith}
+use Rattle.plan_text.proofs.Pieces.{◌⨾◌, roomy}
+use Rattle.plan_text.proofs.line.put_refusal.Goals as goal
+
+pub returns : goal.returns
+returns c =
+    roomy (omega arith)
+    (c.word.ensures
+    ⨾ c.put.ensures
+    ⨾ c.put-2.ensures
+    ⨾ c.word-2.ensures)

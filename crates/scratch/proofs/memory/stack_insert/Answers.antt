@@ -1,5 +1,0 @@
--- `scratch::memory::stack_insert` meets its contract. Assumes nothing.
-use Rattle.scratch.proofs.memory.stack_insert.Goals as goal
-
-pub returns : goal.returns
-returns c = rw (← c.place.ensures) c.set_mark.ensures
