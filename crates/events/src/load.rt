@@ -3,7 +3,7 @@
 #![tactic(auto, unfolding(plan_rules::specs::Push::add_load))]
 
 ghost use Rattle.std.specs.Prelude.{◌≡◌};
-ghost use Rattle.plan_rules.specs.Visit.{collapse_reason};
+ghost use Rattle.plan_rules.specs.Visit.{box_reason};
 ghost use Rattle.plan_rules.specs.OnTape.{Leaves, add_load, add_load_if_boxed};
 
 use crate::counted::{count_dropped_proxy, list_proxy};
@@ -43,14 +43,14 @@ pub fn add_load_if_boxed(
     add_load(out, plan, why, label, bbox)
 }
 
-// The reason that a test gives a reference's or a member's box.
-pub fn collapse_reason(test: CollapseTest) -> Reason
-    ensures { result ≡ collapse_reason test }
+// The reason that the first test met gives a reference's or a member's box. One that passes all the tests gets no box.
+pub fn collapse_reason(test: Option<CollapseTest>) -> Reason
+    ensures { result ≡ box_reason test }
 {
     match test {
-        CollapseTest::Depth => Reason::DepthAtMostOne,
-        CollapseTest::Side => Reason::SmallSide,
-        CollapseTest::Grid => Reason::LargeGrid,
-        CollapseTest::Density => Reason::DenseReference,
+        Some(CollapseTest::Depth) => Reason::DepthAtMostOne,
+        Some(CollapseTest::Side) => Reason::SmallSide,
+        Some(CollapseTest::Grid) => Reason::LargeGrid,
+        Some(CollapseTest::Density) | None => Reason::DenseReference,
     }
 }

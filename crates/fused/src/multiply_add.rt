@@ -13,7 +13,7 @@ ghost use Rattle.fused.specs.Units.{unit_or_zero};
 
 use crate::wide::{leading_word, shift_to_odd};
 use rounding::decode::{exponent_field_of, normalised};
-use rounding::nearest::pack;
+use rounding::nearest::pack_as;
 
 // x * y + z, rounded once. Where a factor is 0, 1 or -1 the product is exact, so that one multiply and
 // one add round once too. y is tested first: where a placement is rotated by a quarter turn it is the
@@ -174,7 +174,7 @@ fn round_wide(s: bool, w: u128, e: u64) -> u64
         return sign;
     }
     let leading = leading_word(w);
-    sign | pack::<f64>(leading.word, e + 64, leading.shift + 1200)
+    sign | pack_as::<f64>(leading.word, e + 64, leading.shift + 1200)
 }
 
 fn sign_bit(s: bool) -> u64

@@ -23,7 +23,7 @@ use Rattle.plan_answer.specs.declared.no_plan.NoPlan.{NoPlan}
 use Rattle.plan_answer.specs.declared.no_plan.NoPlan.TheVariants as no_plan
 use Rattle.plan_answer.specs.NoPlan.{without_query, without_input}
 use Rattle.plan_answer.specs.Text.{outcome_text, outcome_end, line_from}
-use Rattle.plan_answer.specs.Reply.{Reply, Replies, reply, reply_of_outcome, reply_of_query, reply_of_first, reply_of, reply_of_input}
+use Rattle.plan_answer.specs.Reply.{Reply, KeepsLengths, Replies, reply, reply_of_outcome, reply_of_query, reply_of_first, reply_of, reply_of_input}
 use Rattle.plan_answer.proofs.Outcomes.{Told, told}
 
 -- ---- a plan, or a refusal: `call` and `opened` are the contract of `plan_opened`, and `is` what the match found
@@ -78,10 +78,11 @@ input_reply error b f h o k m = refl
 module _ {definition : List ℕ → List ℕ → List ℕ → List ℕ → List ℕ → Reply} {r : Result ℕ NoPlan} where
   -- what was written into them; places that were taken out are those that were lent
   pub left_in : {taken before : Lent} {f h o k m : List ℕ} → taken ≡ before
+      → (length f ≡ length taken.finder.now) × (length h ≡ length taken.hidden.now) × (length o ≡ length taken.tape.now) × (length k ≡ length taken.counts.now) × (length m ≡ length taken.marks.now)
       → reply r f h o k m ≡ definition taken.finder.now taken.hidden.now taken.tape.now taken.counts.now taken.marks.now
       → Replies definition r before (record { finder = set_vals f taken.finder; hidden = set_vals h taken.hidden; tape = set_vals o taken.tape; counts = set_vals k taken.counts; marks = set_vals m taken.marks })
-  left_in {taken} {before} {f} {h} {o} {k} {m} same left =
+  left_in {taken} {before} {f} {h} {o} {k} {m} same lengths left =
       subst
       (λ (x : Lent). Replies definition r x (record { finder = set_vals f taken.finder; hidden = set_vals h taken.hidden; tape = set_vals o taken.tape; counts = set_vals k taken.counts; marks = set_vals m taken.marks }))
       same
-      (record { same_finder = refl; same_hidden = refl; same_tape = refl; same_counts = refl; same_marks = refl; left = left })
+      (record { same_finder = refl; same_hidden = refl; same_tape = refl; same_counts = refl; same_marks = refl; lengths = lengths; left = left })

@@ -1,6 +1,6 @@
 -- What an input is answered, and what stands in every lent place after it: the contracts equate a call to these definitions.
 -- Definitions only; rests on plan_query's reading of the query, on opening a sheet and on the rules' outcome of a call.
-use Rattle.std.specs.Prelude.{◌≡◌, List, ℕ, take, drop, Result, Ok, Err}
+use Rattle.std.specs.Prelude.{◌≡◌, List, ℕ, length, take, drop, Result, Ok, Err}
 use Rattle.streams.specs.declared.input.ReadError.{ReadError}
 use Rattle.plan_query.specs.declared.QueryRecord.{QueryRecord}
 use Rattle.plan_query.specs.declared.QueryError.{QueryError}
@@ -28,14 +28,21 @@ pub record Reply : Type 0 where
 abbrev pub reply : Result ℕ NoPlan → List ℕ → List ℕ → List ℕ → List ℕ → List ℕ → Reply
 reply r f h o k m = record { text = text_from r o 0; end = tape_end r; finder = f; hidden = h; tape = o; counts = k; marks = m }
 
--- What a call promises: its answer, and what it leaves in the lent places, which stay the same ones, are the definition's of what stood
--- there before.
+-- the lent places keep their lengths
+abbrev pub KeepsLengths : Lent → Lent → Type 0
+KeepsLengths before after =
+    (length after.finder.now ≡ length before.finder.now) × (length after.hidden.now ≡ length before.hidden.now) × (length after.tape.now ≡ length before.tape.now)
+    × (length after.counts.now ≡ length before.counts.now) × (length after.marks.now ≡ length before.marks.now)
+
+-- What a call promises: its answer, and what it leaves in the lent places, which stay the same ones and as long, are the definition's of
+-- what stood there before.
 pub record Replies (definition : List ℕ → List ℕ → List ℕ → List ℕ → List ℕ → Reply) (r : Result ℕ NoPlan) (before after : Lent) : Type 0 where
   pub same_finder : after.finder.ghost_name ≡ before.finder.ghost_name
   pub same_hidden : after.hidden.ghost_name ≡ before.hidden.ghost_name
   pub same_tape : after.tape.ghost_name ≡ before.tape.ghost_name
   pub same_counts : after.counts.ghost_name ≡ before.counts.ghost_name
   pub same_marks : after.marks.ghost_name ≡ before.marks.ghost_name
+  pub lengths : KeepsLengths before after
   pub left : reply r after.finder.now after.hidden.now after.tape.now after.counts.now after.marks.now
       ≡ definition before.finder.now before.hidden.now before.tape.now before.counts.now before.marks.now
 

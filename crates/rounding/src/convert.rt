@@ -6,7 +6,7 @@ ghost use Rattle.rounding.specs.Narrow.{narrow, narrows_to_normal};
 ghost use Rattle.rounding.specs.Packed.{Encodes};
 
 use crate::decode::{exponent_field_of, exponent_of, significand_of};
-use crate::nearest::{leading_zeros, pack};
+use crate::nearest::{leading_zeros, pack_as};
 
 // The count n as the nearest f32. One below 2^32 is left to std, which converts its halves and adds them.
 pub fn u64_to_f32(n: u64) -> f32
@@ -16,7 +16,7 @@ pub fn u64_to_f32(n: u64) -> f32
         return std::num::nearest_u32_to_f32(n as u32);
     }
     let s = leading_zeros(n);
-    f32::from_bits(pack::<f32>(n << s, 149, s) as u32)
+    f32::from_bits(pack_as::<f32>(n << s, 149, s) as u32)
 }
 
 // x as the nearest f32.
@@ -65,5 +65,5 @@ fn narrow_pattern(n: u64) -> u64
         return sign;
     }
     let s = leading_zeros(digits);
-    sign | pack::<f32>(digits << s, exponent_of(n), s + 925)
+    sign | pack_as::<f32>(digits << s, exponent_of(n), s + 925)
 }

@@ -35,6 +35,26 @@ pub(crate) fn shift_to_nearest(m: u64, d: u64) -> u64
     }
 }
 
+// The pattern, without its sign, of the float nearest to m * 2^up / 2^down smallest values, at a
+// format of `precision` digits whose exponent field is `ones` at an infinity. The exponent's field and
+// the fraction are added as one number, so that a carry out of the digits steps the field, and one out
+// of the largest value gives the infinity.
+pub fn pack(m: u64, up: u64, down: u64, precision: u64, ones: u64) -> u64
+    requires { (2 ≤ precision) × (precision ≤ 62) × (up < 2 ^ 32) × (down < 2 ^ 32) × (ones * 2 ^ (precision - 1) < 2 ^ 63) }
+    ensures { result ≡ packed precision ones m up down }
+{
+    let infinity = ones << (precision - 1);
+    if 64 + up <= down + precision {
+        return shift_to_nearest(m, down - up).min(infinity);
+    }
+    let field = 64 + up - (down + precision);
+    if field >= ones {
+        return infinity;
+    }
+    let magnitude = (field << (precision - 1)) + shift_to_nearest(m, 64 - precision);
+    magnitude.min(infinity)
+}
+
 // A binary format: how many digits a value has, and the exponent field of an infinity.
 pub trait Format {
     ghost PRECISION: { ℕ };
@@ -72,23 +92,10 @@ impl Format for f64 {
     ghost sizes = { (lit≤ tt, lit≤ tt, lit< tt) };
 }
 
-// The pattern, without its sign, of the float of the format F nearest to m * 2^up / 2^down smallest
-// values. The exponent's field and the fraction are added as one number, so that a carry out of the
-// digits steps the field, and one out of the largest value gives the infinity.
-pub fn pack<F: Format>(m: u64, up: u64, down: u64) -> u64
+// The same of the format F.
+pub fn pack_as<F: Format>(m: u64, up: u64, down: u64) -> u64
     requires { (up < 2 ^ 32) × (down < 2 ^ 32) }
     ensures { result ≡ packed F.PRECISION F.ONES m up down }
 {
-    let precision = F::PRECISION;
-    let ones = F::ONES;
-    let infinity = ones << (precision - 1);
-    if 64 + up <= down + precision {
-        return shift_to_nearest(m, down - up).min(infinity);
-    }
-    let field = 64 + up - (down + precision);
-    if field >= ones {
-        return infinity;
-    }
-    let magnitude = (field << (precision - 1)) + shift_to_nearest(m, 64 - precision);
-    magnitude.min(infinity)
+    pack(m, up, down, F::PRECISION, F::ONES)
 }

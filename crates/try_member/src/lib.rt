@@ -58,7 +58,7 @@ pub fn try_member(
         return Tried::Passed(events::count_skipped_member(plan));
     }
     if let Some(test) = screen::collapse_test(size, 1, share, depth, false) {
-        let boxed = events::add_load(out, plan, events::collapse_reason(test), label, bbox);
+        let boxed = events::add_load(out, plan, events::collapse_reason(Some(test)), label, bbox);
         return Tried::Passed(boxed);
     }
     Tried::Opens { placement, bbox }

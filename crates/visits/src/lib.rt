@@ -103,7 +103,7 @@ fn visit_reference(
         depth,
     );
     if let Some(test) = reference.reference_test(fixed, count, draw_units, depth) {
-        let why = events::collapse_reason(test);
+        let why = events::collapse_reason(Some(test));
         return events::add_load(out, plan, why, label, world_bbox);
     }
     let share = units::source_units(draw_units, count);

@@ -10,16 +10,6 @@ use Rattle.rounding.specs.Packed.{packed}
 abbrev pub Room : ℕ → ℕ → ℕ → ℕ → Type 0
 Room x b p o = (2 ≤ p) × (p ≤ 62) × (x < 2 ^ 32) × (b < 2 ^ 32) × (o * 2 ^ (p - 1) < 2 ^ 63)
 
--- what a format says of its sizes, said of the numbers that the code has of it
-pub room : {x b p o P O : ℕ} → p ≡ P → o ≡ O → (2 ≤ P) × (P ≤ 62) × (O * 2 ^ (P - 1) < 2 ^ 63) → (x < 2 ^ 32) × (b < 2 ^ 32) → Room x b p o
-room e f s h = (
-  subst (λ (n : ℕ). 2 ≤ n) (sym e) s.0,
-  subst (λ (n : ℕ). n ≤ 62) (sym e) s.1,
-  h.0,
-  h.1,
-  subst (λ (n : ℕ). n < 2 ^ 63) (λ i. sym f i * 2 ^ (sym e i - 1)) s.2,
-)
-
 module _ (m x b p o : ℕ) (P : Room x b p o) where
   abbrev cap : ℕ
   cap = o * 2 ^ (p - 1) % 2 ^ 64

@@ -8,4 +8,4 @@ returns-then-w-eq0 c =
 
 pub returns : goal.returns
 returns c =
-    λ n h. round_wide_some c.args.s c.args.w c.args.e c.pack.result n c.leading_word-leading.result.word c.leading_word-leading.result.shift c.sign_bit-sign.result c.sign_bit-sign.ensures c.leading_word-leading.ensures c.pack.ensures h
+    λ n h. round_wide_some c.args.s c.args.w c.args.e c.pack_as.result n c.leading_word-leading.result.word c.leading_word-leading.result.shift c.sign_bit-sign.result c.sign_bit-sign.ensures c.leading_word-leading.ensures c.pack_as.ensures h

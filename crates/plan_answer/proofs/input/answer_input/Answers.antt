@@ -11,4 +11,4 @@ returns-in_err-size-clause-replies c =
     let p = err_from_is_err_and c.from_residual.result c.from_residual.ensures.1 in
     let left = input_reply c.in_err-size.field-0.0 c.args.buffer.now t.finder.now t.hidden.now t.tape.now t.counts.now t.marks.now in
     rw (p.1, p.2, c.in_err-size.was)
-    (record { same_finder = refl; same_hidden = refl; same_tape = refl; same_counts = refl; same_marks = refl; left = left })
+    (record { same_finder = refl; same_hidden = refl; same_tape = refl; same_counts = refl; same_marks = refl; lengths = (refl, refl, refl, refl, refl); left = left })

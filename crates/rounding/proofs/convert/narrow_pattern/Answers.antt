@@ -20,10 +20,10 @@ pub returns-then-digits-eq0 : goal.returns-then-digits-eq0
 returns-then-digits-eq0 c =
     narrow_zero c.args.n c.ranges.n.fits (finite c.before.before) (sym c.significand_of-digits.ensures ∙ c.if-digits-eq0.true)
 
-pub pack-requires : goal.pack-requires
-pack-requires c = omega (arith, exponent_lt c.args.n)
+pub pack_as-requires : goal.pack_as-requires
+pack_as-requires c = omega (arith, exponent_lt c.args.n)
 
 pub returns : goal.returns
 returns c =
-    narrow_encodes c.args.n c.ranges.n.fits (finite c.before.before.before.before.before) c.significand_of-digits.result c.exponent_of.result c.leading_zeros-s.result c.pack.result
-    c.significand_of-digits.ensures c.exponent_of.ensures c.leading_zeros-s.ensures c.pack.ensures
+    narrow_encodes c.args.n c.ranges.n.fits (finite c.before.before.before.before.before) c.significand_of-digits.result c.exponent_of.result c.leading_zeros-s.result c.pack_as.result
+    c.significand_of-digits.ensures c.exponent_of.ensures c.leading_zeros-s.ensures c.pack_as.ensures

@@ -5,8 +5,8 @@ use Rattle.rounding.specs.Packed.{Encodes}
 use Rattle.rounding.proofs.convert.Counting.{count_encodes}
 use Rattle.rounding.proofs.convert.u64_to_f32.Goals as goal
 
-written : (c : goal.After-pack) → Encodes binary32 c.pack.result (of_int binary32 (pos c.args.n))
-written c = count_encodes c.args.n c.leading_zeros-s.result c.pack.result c.leading_zeros-s.ensures c.pack.ensures
+written : (c : goal.After-pack_as) → Encodes binary32 c.pack_as.result (of_int binary32 (pos c.args.n))
+written c = count_encodes c.args.n c.leading_zeros-s.result c.pack_as.result c.leading_zeros-s.ensures c.pack_as.ensures
 
 pub overflow_cast-result : goal.overflow_cast-result
 overflow_cast-result c = record { fits = (written c).width }
