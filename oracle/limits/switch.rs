@@ -122,6 +122,16 @@ pub mod switch {
     comparison!(same, ==, |a, b| a.wide() == b.up(), |a, b| a.wide() == b.down());
     comparison!(other, !=, |a, b| a.wide() != b.up(), |a, b| a.wide() != b.down());
 
+    /// The end of a range from 0 on: of an empty one no less.
+    #[inline(always)]
+    pub fn end<N: Step + PartialOrd + Default>(place: u32, n: N) -> N {
+        match change(place) {
+            0 => n.after(),
+            1 if n > N::default() => n.before(),
+            _ => n,
+        }
+    }
+
     #[inline(always)]
     pub fn number<N: Step>(place: u32, n: N) -> N {
         match change(place) {

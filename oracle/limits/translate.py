@@ -1,7 +1,7 @@
 """Reads the planner's Rattle code as Rust, with a switch at every limit test.
 
 Rattle code without its contracts, ghost items and attributes is Rust code, so one file of Rust holds the crates as modules. A *place* is a
-comparison, an integer `match`, or a number of the crates whose numbers are themselves limits. Each place has two changes by one; the switch
+comparison, an integer `match`, the end of a range that a `for` goes over, or a number of the crates whose numbers are themselves limits. Each place has two changes by one; the switch
 picks one change of one place, or none. For a test that is called from several places it picks one of these calls, or all, and for a test in a
 function over the types of a trait one of these types, or all. A const parameter of the program `plan` is read as a plain one, so that a size
 is changed at the call that gives it.
@@ -27,10 +27,10 @@ STARTS = {'TRIES'}
 CALLED = {'detail_budget_exhausted': 'limits', 'detail_cells_full': 'limits', 'add_load': 'events', 'add_load_if_boxed': 'events',
           'load': 'visit_items', 'overlaps': 'geometry', 'point_in_bbox': 'geometry', 'source_is_degenerate': 'geometry',
           'is_subpixel': 'screen', 'collapse_test': 'screen', 'all_below': 'check_sheet', 'zero_box': 'check_record',
-          'count_for': 'look_up', 'start_for': 'look_up', 'look_up': 'look_up', 'is_below': 'floats', 'pack': 'rounding',
+          'count_for': 'look_up', 'start_for': 'look_up', 'look_up': 'look_up', 'is_below': 'floats', 'pack': 'rounding', 'pack_as': 'rounding',
           'Term::new': 'fused', 'read_at': 'records', 'set': 'scratch'}
 # What a call of these reaches through another of them.
-THROUGH = {'add_load_if_boxed': 'add_load', 'load': 'add_load'}
+THROUGH = {'add_load_if_boxed': 'add_load', 'load': 'add_load', 'pack_as': 'pack'}
 # Functions that one of these alone calls: their tests belong to it.
 PARTS = {'look_in': 'look_up'}
 # Traits, by their crates: a test in a function over the types of one, and a call of CALLED in it, is tried for one type at a time, too.
@@ -57,8 +57,9 @@ class Call:
 
     def reaches(self, place):
         """Whether the tests of the place's function are changed."""
-        callee = THROUGH.get(self.callee, self.callee)
-        return PARTS.get(place.function, place.function) == callee.split('::')[-1] and place.crate == CALLED[callee]
+        function = PARTS.get(place.function, place.function)
+        return any(function == callee.split('::')[-1] and place.crate == CALLED[callee]
+                   for callee in {self.callee, THROUGH.get(self.callee, self.callee)})
 
     def name(self):
         type_name = f'::<{self.type}>' if self.type else ''
@@ -272,6 +273,8 @@ class File:
                 self.comparison(at)
             elif token == 'match':
                 self.match(at)
+            elif token == '..' and self.is_loop(at):
+                self.end(at)
             elif self.callee(at) in CALLED and names[at] not in THROUGH and self.arguments(at):
                 self.call(at)
             elif self.crate in NUMBERS and re.match(r'\d', token) or token in NAMED | STARTS:
@@ -336,6 +339,18 @@ class File:
         number = self.place(test, changes_of(left, tokens[at], right))
         self.put[at] = ','
         self.test(beside(tokens, start - 1, 1), beside(tokens, end, -1), f'crate::switch::{COMPARISONS[tokens[at]]}({number}, ')
+
+    def is_loop(self, at):
+        """Whether the range at `at` is what a `for` goes over."""
+        line_start = max(i for i in range(at) if self.tokens[i] in ';{}')
+        return self.tokens[beside(self.tokens, line_start, 1)] == 'for'
+
+    def end(self, at):
+        """The end of a range."""
+        tokens, end = self.tokens, self.operand(at, 1)
+        last = text_between(tokens, at + 1, end)
+        number = self.place(f'for ..{last}', [f'..{stepped(last, 1)}', f'..{stepped(last, -1)}'])
+        self.test(beside(tokens, at, 1), beside(tokens, end, -1), f'crate::switch::end({number}, ')
 
     def call(self, at):
         """The call at `at`, with what leads to it: a path, or the receiver of a method."""
